@@ -1,0 +1,56 @@
+// Decimal numbers as bytes: of a fixed width, and plain.
+ghost use mathlib.Core.Path.{_≡_};
+ghost use Prim.Native.Nat.{ℕ, _-_, _^_, _<_, min};
+ghost use lib.ListN.{length};
+ghost use Rattle.std.specs.Options.{Cases};
+ghost use Rattle.decimal.specs.Decimal.{AllDigits, value, fixed, FixedText, PlainText};
+
+// The most digits that `fixed_value` reads: as many nines fit a u64.
+const MOST_DIGITS: usize = 18;
+
+// The number that the bytes write, or `u64::MAX` where it is larger; `None` where a byte is no digit.
+fn capped_value(digits: &[u8]) -> Option<u64>
+    ensures { λ r. ⌜ Cases r (AllDigits (now (digits .entry)) → ⊥) (λ n. AllDigits (now (digits .entry)) × (n ≡ min (value (now (digits .entry))) (2 ^ 64 - 1))) ⌝ }
+{
+    let mut number: u64 = 0;
+    for byte in digits {
+        if !byte.is_ascii_digit() {
+            return None;
+        }
+        number = number
+            .saturating_mul(10)
+            .saturating_add(u64::from(*byte - b'0'));
+    }
+    Some(number)
+}
+
+// The number that 1 to 18 digits write; `None` for any other bytes.
+pub fn fixed_value(digits: &[u8]) -> Option<u64>
+    ensures { λ r. ⌜ Cases r ((n : ℕ) → FixedText (now (digits .entry)) n → ⊥) (λ n. FixedText (now (digits .entry)) n) ⌝ }
+{
+    if digits.is_empty() || digits.len() > MOST_DIGITS {
+        return None;
+    }
+    capped_value(digits)
+}
+
+// The number that is written with no needless leading 0, or `u64::MAX` where it is larger; `None` for any other bytes.
+pub fn plain_value(digits: &[u8]) -> Option<u64>
+    ensures { λ r. ⌜ Cases r (PlainText (now (digits .entry)) → ⊥) (λ n. PlainText (now (digits .entry)) × (n ≡ min (value (now (digits .entry))) (2 ^ 64 - 1))) ⌝ }
+{
+    match digits {
+        [] | [b'0', _, ..] => None,
+        _ => capped_value(digits),
+    }
+}
+
+// Writes the last digits of `number`, as many as `out` has room for.
+pub fn write_fixed(number: u64, out: &mut [u8])
+    ensures { λ _. ⌜ now (out .exit) ≡ fixed (length (now (out .entry))) number ⌝ }
+{
+    let mut rest = number;
+    for i in (0..out.len()).rev() {
+        out[i] = b'0' + (rest % 10) as u8;
+        rest /= 10;
+    }
+}

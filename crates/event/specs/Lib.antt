@@ -1,0 +1,3 @@
+pub mod Keys
+pub mod Lawful
+pub mod Search
