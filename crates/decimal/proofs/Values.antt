@@ -1,14 +1,14 @@
 -- What the number that digits write comes to. Assumes nothing.
-use mathlib.Core.Path.{_≡_, refl, sym, ap, _∙_, subst}
+use mathlib.Core.Path.{_≡_, refl, sym, ap, _∙_}
 use mathlib.Core.List.{List, [], _∷_, _++_}
-use Prim.Native.Nat.{ℕ, zero, suc, _+_, _-_, _*_, _/_, _%_, _^_, _≤_, _<_, min, suc-le-suc}
-use native.Mathlib.Nat.{add-mul, mul-assoc, mul-comm, pow-suc, zero-mul, one-le-pow}
+use Prim.Native.Nat.{ℕ, suc, _+_, _-_, _*_, _/_, _%_, _^_, _<_, min, suc-le-suc}
+use native.Mathlib.Nat.{add-mul, mul-assoc, mul-comm, pow-suc, one-le-pow}
 use native.Mathlib.Omega.{arith}
 use lib.Arith.{digits-div, digits-mod}
 use lib.ListN.{length, getD, take}
 use Rattle.std.proofs.shelf.Lists.{take-more}
 use Rattle.std.proofs.shelf.Numerals.{Numerals, numerals-by-fold, tells-by-index, value-short}
-use Rattle.decimal.specs.Decimal.{Digit, AllDigits, valueAfter, value}
+use Rattle.decimal.specs.Decimal.{AllDigits, valueAfter, value}
 
 -- the words of this crate are those of std's reading and writing of numbers
 pub numerals : Numerals AllDigits value

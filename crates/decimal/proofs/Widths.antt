@@ -2,7 +2,7 @@
 use mathlib.Core.Path.{_≡_, refl, sym, ap, _∙_, subst}
 use mathlib.Core.List.{List, _∷_}
 use Prim.Native.Nat.{ℕ, zero, suc, _+_, _-_, _*_, _/_, _%_, _^_, _≤_, _<_, min}
-use native.Mathlib.Nat.{add-mul, mul-assoc, mul-comm, pow-suc, pow-succ', mod-eq-of-lt, div-div-eq-div-mul, div-one, le-of-suc-le-suc}
+use native.Mathlib.Nat.{add-mul, mul-assoc, pow-suc, pow-succ', mod-eq-of-lt, div-div-eq-div-mul, div-one, le-of-suc-le-suc}
 use native.Mathlib.Omega.{arith}
 use lib.Arith.{mod-mul}
 use lib.ListN.{length, drop, set, length-set}
@@ -11,7 +11,7 @@ use Rattle.std.proofs.shelf.Numerals.{value-short}
 use Rattle.std.specs.Options.{Cases}
 use Rattle.std.specs.declared.option.Option.{Option}
 use Rattle.std.specs.declared.option.Option.the-variants.{None, Some}
-use Rattle.decimal.specs.Decimal.{Digit, AllDigits, valueAfter, value, fixed, FixedText}
+use Rattle.decimal.specs.Decimal.{AllDigits, valueAfter, value, fixed, FixedText}
 use Rattle.decimal.proofs.Values.{numerals, power-some, value-below, same-from-value}
 
 pub length-fixed : (w n : ℕ) → length (fixed w n) ≡ w

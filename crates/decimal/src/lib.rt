@@ -1,6 +1,6 @@
 // Decimal numbers as bytes: of a fixed width, and plain.
 ghost use mathlib.Core.Path.{_≡_};
-ghost use Prim.Native.Nat.{ℕ, _-_, _^_, _<_, min};
+ghost use Prim.Native.Nat.{ℕ, _+_, _-_, _%_, _^_, _<_, min};
 ghost use lib.ListN.{length};
 ghost use Rattle.std.specs.Options.{Cases};
 ghost use Rattle.decimal.specs.Decimal.{AllDigits, value, fixed, FixedText, PlainText};
@@ -44,13 +44,20 @@ pub fn plain_value(digits: &[u8]) -> Option<u64>
     }
 }
 
+// The byte of the last digit.
+fn last_digit(number: u64) -> u8
+    ensures { λ r. ⌜ r ≡ 48 + number % 10 ⌝ }
+{
+    b'0' + (number % 10) as u8
+}
+
 // Writes the last digits of `number`, as many as `out` has room for.
 pub fn write_fixed(number: u64, out: &mut [u8])
     ensures { λ _. ⌜ now (out .exit) ≡ fixed (length (now (out .entry))) number ⌝ }
 {
     let mut rest = number;
     for i in (0..out.len()).rev() {
-        out[i] = b'0' + (rest % 10) as u8;
+        out[i] = last_digit(rest);
         rest /= 10;
     }
 }

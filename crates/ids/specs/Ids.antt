@@ -25,9 +25,6 @@ pub record Written (text : List ℕ) (station session : ℕ) : Type 0 where
 abbrev pub Possible : (station session : ℕ) → Type 0
 Possible station session = (station ≤ last-station) × (1 ≤ session)
 
-abbrev pub Impossible : (station session : ℕ) → Type 0
-Impossible station session = (last-station < station) ⊎ (session < 1)
-
 -- the id that the text writes
 pub record Id (text : List ℕ) (id : TransactionId) : Type 0 where
   pub written : Written text (id .station) (id .session)
@@ -37,7 +34,7 @@ pub record Id (text : List ℕ) (id : TransactionId) : Type 0 where
 abbrev pub NoId : List ℕ → Refusal → Type 0
 NoId text why =
     ((why ≡ BadValue) × ((station session : ℕ) → Written text station session → ⊥))
-    ⊎ ((why ≡ OutOfRange) × ((station : ℕ) × (session : ℕ) × Written text station session × Impossible station session))
+    ⊎ ((why ≡ OutOfRange) × ((station : ℕ) × (session : ℕ) × Written text station session × (Possible station session → ⊥)))
 
 abbrev pub ReadsId : List ℕ → Result TransactionId Refusal → Type 0
 ReadsId text r = Cases r (Id text) (NoId text)

@@ -1,6 +1,7 @@
 // Transaction ids: a station and a session as `00017-00000003`.
 ghost use mathlib.Core.Path.{_≡_};
-ghost use Rattle.ids.specs.Ids.{ReadsId};
+ghost use Rattle.ids.specs.Ids.{Possible, ReadsId};
+ghost use Rattle.std.specs.Orderings.{Decides};
 use decimal::fixed_value;
 use refusal::Refusal;
 use std::fmt;
@@ -9,6 +10,13 @@ use std::fmt;
 pub struct TransactionId {
     pub station: u16,
     pub session: u32,
+}
+
+// There is such a station, and such a session at it; eight digits keep the session below its limit.
+fn possible(station: u64, session: u64) -> bool
+    ensures { λ r. ⌜ Decides r (Possible station session) ⌝ }
+{
+    station <= u64::from(u16::MAX) && session >= 1
 }
 
 impl TransactionId {
@@ -28,7 +36,7 @@ impl TransactionId {
         let Some(session) = fixed_value(session) else {
             return Err(Refusal::BadValue);
         };
-        if station > u64::from(u16::MAX) || session < 1 {
+        if !possible(station, session) {
             return Err(Refusal::OutOfRange);
         }
         Ok(TransactionId {

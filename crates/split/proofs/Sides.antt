@@ -10,11 +10,7 @@ use lib.Dec.{eqb}
 use lib.ListN.{length, getD, take, drop, take-append-drop}
 use lib.Seq.{drop-cons}
 use Rattle.std.proofs.shelf.Tests.{eq-eqb, ne-eqb, cond-true, cond-false}
-use Rattle.split.specs.Split.{Cut, after, before}
-
--- the first n bytes are no separator
-abbrev pub Free : ℕ → List ℕ → ℕ → Type 0
-Free separator text n = (i : ℕ) → i < n → getD text i 0 ≡ separator → ⊥
+use Rattle.split.specs.Split.{Free, after, before}
 
 -- the separator stands first at i
 pub before-at : (s : ℕ) (text : List ℕ) (i : ℕ) → i < length text → getD text i 0 ≡ s → Free s text i → before s text ≡ take i text

@@ -17,7 +17,11 @@ abbrev pub after : ℕ → List ℕ → List ℕ
 after separator [] = []
 after separator (b ∷ bs) = cond (eqb b separator) bs (after separator bs)
 
+-- the first n bytes are no separator
+abbrev pub Free : ℕ → List ℕ → ℕ → Type 0
+Free separator text n = (i : ℕ) → i < n → getD text i 0 ≡ separator → ⊥
+
 -- front and back are the two sides of the first separator in the text, or the front is all of it
 pub record Cut (separator : ℕ) (text front back : List ℕ) : Type 0 where
   pub parts : (text ≡ front ++ separator ∷ back) ⊎ ((text ≡ front) × (back ≡ []))
-  pub clean : (i : ℕ) → i < length front → getD front i 0 ≡ separator → ⊥
+  pub clean : Free separator front (length front)

@@ -1,7 +1,6 @@
 use mathlib.Core.Path.{_∙_, ap}
 use Prim.Native.Nat.{_-_, _^_, min}
 use native.Mathlib.Omega.{arith}
-use lib.ListN.{take}
 use borrow.Author.Count.{below-more}
 use borrow.Author.Needs.{needs}
 use Rattle.std.proofs.shelf.Lists.{take-all}

@@ -6,16 +6,18 @@ use native.Mathlib.Omega.{arith}
 use lib.ListN.{length, take, drop, length-take, length-drop}
 use lib.Seq.{getD-take}
 use Rattle.std.proofs.shelf.Lists.{take-rest}
-use Rattle.split.proofs.Sides.{Free, after-at, after-none, before-at, before-none, split-at}
+use Rattle.split.proofs.Sides.{after-at, after-none, before-at, before-none, split-at}
+use Rattle.split.specs.Split.{Free}
 use Rattle.split.proofs.cut.Needs as need
 
-pub returns-then-byte-separator : need.returns-then-byte-separator
-returns-then-byte-separator c =
+pub returns-then-place-text : need.returns-then-place-text
+returns-then-place-text c =
     let text = c .args .text .now in
-    let i = c .loop-place .place in
-    let lt = c .loop-place-test .taken in
-    let here = c .if-byte-separator .taken in
-    let free = c .loop-place .inv in
+    let i = c .separator-place-place .result in
+    let found = c .separator-place-place .ensures in
+    let lt = c .if-place-text .taken in
+    let here = found .here lt in
+    let free = found .before in
     simp (take-rest, sub-zero, add-one) (record {
       front = sym (before-at _ text i lt here free);
       back = sym (after-at _ text i lt here free);
@@ -27,10 +29,10 @@ returns-then-byte-separator c =
       shorter = λ _. simp length-drop (omega arith);
     })
 
-pub returns : need.returns
-returns c =
+pub returns-else-place-text : need.returns-else-place-text
+returns-else-place-text c =
     let text = c .args .text .now in
-    let free : Free (c .args .separator) text (length text) = λ k h. c .loop-place .inv k (omega arith) in
+    let free : Free (c .args .separator) text (length text) = λ k h. c .separator-place-place .ensures .before k (omega arith) in
     record {
       front = sym (before-none _ text free);
       back = sym (after-none _ text free);

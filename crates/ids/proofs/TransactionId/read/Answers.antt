@@ -1,5 +1,5 @@
 use mathlib.Core.List.{List, [], _∷_}
-use mathlib.Core.Logic.{inl, inr, ⊎-elim}
+use mathlib.Core.Logic.{inl, inr}
 use mathlib.Core.Path.{_≡_, refl, sym, ap, subst}
 use Prim.Native.Nat.{ℕ, _≤_, _<_}
 use native.Mathlib.Omega.{arith}
@@ -12,6 +12,7 @@ use Rattle.ids.proofs.TransactionId.read.Needs as need
 use Rattle.ids.proofs.TransactionId.read.Needs.{In-Some-fixed-value}
 use Rattle.refusal.specs.declared.Refusal.the-variants.{BadValue, OutOfRange}
 use Rattle.std.proofs.shelf.Lists.{take-rest}
+use Rattle.std.proofs.shelf.Tests.{true≢false}
 
 -- a text whose parts do not stand at their places is no id
 unlike : (text : List ℕ) → ((station session : ℕ) → Parts text station session → ⊥) → NoId text BadValue
@@ -51,9 +52,9 @@ read c =
       back = subst (λ l. FixedText l (c .in-Some-fixed-value .session)) (take-rest text 6) (c .in-Some-fixed-value .ensures tt);
     })
 
-pub returns-then-station-from : need.returns-then-station-from
-returns-then-station-from c =
-    inr (refl, (c .in-Some .station, c .in-Some-fixed-value .session, read (need.at·returns-then-station-from c .In-Some-fixed-value), ⊎-elim (λ h. inl (omega arith)) (λ h. inr (h .1)) (c .then-station-from .either)))
+pub returns-then-not-possible : need.returns-then-not-possible
+returns-then-not-possible c =
+    inr (refl, (c .in-Some .station, c .in-Some-fixed-value .session, read (need.at·returns-then-not-possible c .In-Some-fixed-value), λ p. true≢false (sym (c .if-not-possible .ensures tt .1 p))))
 
 pub returns : need.returns
-returns c = record { written = read (need.at·returns c .In-Some-fixed-value); possible = (omega arith, omega arith) }
+returns c = record { written = read (need.at·returns c .In-Some-fixed-value); possible = c .if-not-possible .ensures tt .0 refl }
