@@ -1,0 +1,5 @@
+pub mod Grammar
+pub mod Beginnings
+pub mod Machine
+pub mod Scanning
+pub mod Verdict
