@@ -149,13 +149,13 @@ member-run k s u v {n} {y} {w} {x} stays quote n-is y-is w-is d x-is =
     let colon-on = 34 ∷ (y ++ (58 ∷ rest)) in
     let name-on = 34 ∷ (n ++ colon-on) in
     subst (Done k) (sym
-      (run-append s u name-on
-      ∙ ap (λ t. run t name-on) stays
-      ∙ ap (λ t. run t (n ++ colon-on)) quote
-      ∙ run-append (live (chars true) k) n colon-on
-      ∙ ap (λ t. run t colon-on) (chars-run k true n-is)
-      ∙ run-append (live colon k) y (58 ∷ rest)
-      ∙ ap (λ t. run t (58 ∷ rest)) (white-colon k y-is)))
+    (run-append s u name-on
+    ∙ ap (λ t. run t name-on) stays
+    ∙ ap (λ t. run t (n ++ colon-on)) quote
+    ∙ run-append (live (chars true) k) n colon-on
+    ∙ ap (λ t. run t colon-on) (chars-run k true n-is)
+    ∙ run-append (live colon k) y (58 ∷ rest)
+    ∙ ap (λ t. run t (58 ∷ rest)) (white-colon k y-is)))
     (padded-run k (live value k) w v (white-value k w-is) d x-is)
 
 mutual

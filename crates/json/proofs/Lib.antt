@@ -5,3 +5,4 @@ pub mod Sound
 pub mod Alive
 pub mod Stacks
 pub mod Verdicts
+pub mod Unique

@@ -303,8 +303,8 @@ mutual
       let l = led-elem k (f .rest) (f .on) in
       ⊎-elim
       (λ p.
-        let v = led-value (arr ∷ k) (l .rest) (p .1) in
-        next-elem k w b r w-is f l (p .0) (subst (FoundElems k) (sym (v .cut)) (elements-cut n k (v .front) (v .here) (v .rest) (omega (arith, f .short, l .short, v .short)) (v .is) (v .on))))
+      let v = led-value (arr ∷ k) (l .rest) (p .1) in
+      next-elem k w b r w-is f l (p .0) (subst (FoundElems k) (sym (v .cut)) (elements-cut n k (v .front) (v .here) (v .rest) (omega (arith, f .short, l .short, v .short)) (v .is) (v .on))))
       (λ q. let p = by-last (l .rest) (eqb (l .here) 93) (live after k) (q .1) in last-elem k w b r w-is f l (p .0) (p .1))
       (by-test (l .rest) (eqb (l .here) 44) _ _ (l .on))
 
@@ -324,8 +324,8 @@ mutual
         short = omega (arith, l .short);
       })
       (λ q.
-        let p = by-last (l .rest) (eqb (l .here) 34) (live (chars true) (obj ∷ k)) (q .1) in
-        whole-object k s (subst (FoundMembs k) (sym (l .cut ∙ ap (λ x. l .front ++ (x ∷ l .rest)) (eqb-true (l .here) 34 (p .0)))) (members-cut n k (l .front) (l .rest) (omega (arith, l .short)) (l .is) (p .1))))
+      let p = by-last (l .rest) (eqb (l .here) 34) (live (chars true) (obj ∷ k)) (q .1) in
+      whole-object k s (subst (FoundMembs k) (sym (l .cut ∙ ap (λ x. l .front ++ (x ∷ l .rest)) (eqb-true (l .here) 34 (p .0)))) (members-cut n k (l .front) (l .rest) (omega (arith, l .short)) (l .is) (p .1))))
       (by-test (l .rest) (eqb (l .here) 125) _ _ (l .on))
 
   -- members from one whose name has been opened
@@ -337,9 +337,9 @@ mutual
       let l = led-memb k (f .rest) (f .on) in
       ⊎-elim
       (λ p.
-        let v = led white (live name (obj ∷ k)) (λ b. cond (eqb b 34) (live (chars true) (obj ∷ k)) dead) (λ b. refl) refl (l .rest) (p .1) in
-        let q = by-last (v .rest) (eqb (v .here) 34) (live (chars true) (obj ∷ k)) (v .on) in
-        next-memb k u s u-is m f l (p .0) (subst (FoundMembs k) (sym (v .cut ∙ ap (λ x. v .front ++ (x ∷ v .rest)) (eqb-true (v .here) 34 (q .0)))) (members-cut n k (v .front) (v .rest) (omega (arith, m .short, f .short, l .short, v .short)) (v .is) (q .1))))
+      let v = led white (live name (obj ∷ k)) (λ b. cond (eqb b 34) (live (chars true) (obj ∷ k)) dead) (λ b. refl) refl (l .rest) (p .1) in
+      let q = by-last (v .rest) (eqb (v .here) 34) (live (chars true) (obj ∷ k)) (v .on) in
+      next-memb k u s u-is m f l (p .0) (subst (FoundMembs k) (sym (v .cut ∙ ap (λ x. v .front ++ (x ∷ v .rest)) (eqb-true (v .here) 34 (q .0)))) (members-cut n k (v .front) (v .rest) (omega (arith, m .short, f .short, l .short, v .short)) (v .is) (q .1))))
       (λ q. let p = by-last (l .rest) (eqb (l .here) 125) (live after k) (q .1) in last-memb k u s u-is m f l (p .0) (p .1))
       (by-test (l .rest) (eqb (l .here) 44) _ _ (l .on))
 

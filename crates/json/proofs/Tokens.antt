@@ -53,9 +53,9 @@ led-or-all test s next is [] h = inl (no-byte, h)
 led-or-all test s next is (b ∷ bs) h =
     ⊎-elim
     (λ yes-here. ⊎-elim
-      (λ all. inl (byte (yes-here .0) (all .0), all .1))
-      (λ l. inr (record { front = b ∷ l .front; here = l .here; rest = l .rest; cut = ap (λ x. b ∷ x) (l .cut); is = byte (yes-here .0) (l .is); on = l .on; short = omega (arith, l .short) }))
-      (led-or-all test s next is bs (yes-here .1)))
+    (λ all. inl (byte (yes-here .0) (all .0), all .1))
+    (λ l. inr (record { front = b ∷ l .front; here = l .here; rest = l .rest; cut = ap (λ x. b ∷ x) (l .cut); is = byte (yes-here .0) (l .is); on = l .on; short = omega (arith, l .short) }))
+    (led-or-all test s next is bs (yes-here .1)))
     (λ not-here. inr (record { front = []; here = b; rest = bs; cut = refl; is = no-byte; on = not-here .1; short = omega arith }))
     (by-test bs (test b) s (next b) (subst (λ u. Acc u bs) (is b) h))
 
@@ -84,9 +84,9 @@ module _ (n : Bool) (k : List Kind) where
         ⊎-elim
         (λ quote. record { front = []; rest = s; cut = ap (λ x. x ∷ s) (eqb-true b 34 (quote .0)); is = no-char; on = quote .1; short = omega arith })
         (λ r1. ⊎-elim
-          (λ slash. quoted-more (λ cs. Chars (92 ∷ cs)) Chars n k b s (λ cs c. subst (λ x. Chars (x ∷ cs)) (sym (eqb-true b 92 (slash .0))) c) (escaped-cut s (slash .1)))
-          (λ r2. let p = by-last s (plain b) (live (chars n) k) (r2 .1) in quoted-more Chars Chars n k b s (λ cs c. char (p .0) c) (chars-cut s (p .1)))
-          (by-test s (eqb b 92) _ _ (r1 .1)))
+        (λ slash. quoted-more (λ cs. Chars (92 ∷ cs)) Chars n k b s (λ cs c. subst (λ x. Chars (x ∷ cs)) (sym (eqb-true b 92 (slash .0))) c) (escaped-cut s (slash .1)))
+        (λ r2. let p = by-last s (plain b) (live (chars n) k) (r2 .1) in quoted-more Chars Chars n k b s (λ cs c. char (p .0) c) (chars-cut s (p .1)))
+        (by-test s (eqb b 92) _ _ (r1 .1)))
         (by-test s (eqb b 34) _ _ h)
 
     escaped-cut : (s : List ℕ) → Acc (live (escaped n) k) s → Quoted (λ cs. Chars (92 ∷ cs)) n k s
@@ -95,7 +95,7 @@ module _ (n : Bool) (k : List Kind) where
         ⊎-elim
         (λ e. quoted-more Chars (λ cs. Chars (92 ∷ cs)) n k b s (λ cs c. escape (e .0) c) (chars-cut s (e .1)))
         (λ r1. let u = by-last s (eqb b 117) (live (hex4 n) k) (r1 .1) in
-          quoted-more (λ cs. Chars (92 ∷ 117 ∷ cs)) (λ cs. Chars (92 ∷ cs)) n k b s (λ cs c. subst (λ x. Chars (92 ∷ x ∷ cs)) (sym (eqb-true b 117 (u .0))) c) (hex4-cut s (u .1)))
+        quoted-more (λ cs. Chars (92 ∷ 117 ∷ cs)) (λ cs. Chars (92 ∷ cs)) n k b s (λ cs c. subst (λ x. Chars (92 ∷ x ∷ cs)) (sym (eqb-true b 117 (u .0))) c) (hex4-cut s (u .1)))
         (by-test s (escapable b) _ _ h)
 
     hex4-cut : (s : List ℕ) → Acc (live (hex4 n) k) s → Quoted (λ cs. Chars (92 ∷ 117 ∷ cs)) n k s
@@ -184,10 +184,10 @@ powered-cut k e t [] h = absurd (false≢true h)
 powered-cut k e t (b ∷ s) h =
     ⊎-elim
     (λ g. part-more (λ x. Exponent (e ∷ x)) Exponent k e (b ∷ s) (λ cs c. c)
-      (part-more Digits (λ x. Exponent (e ∷ x)) k b s (λ cs c. exponent {s = b ∷ []} t (a-sign (g .0)) c) (signed-cut k s (g .1))))
+    (part-more Digits (λ x. Exponent (e ∷ x)) k b s (λ cs c. exponent {s = b ∷ []} t (a-sign (g .0)) c) (signed-cut k s (g .1))))
     (λ r. let d = by-last s (digit b) (live scaled k) (r .1) in
-      part-more (λ x. Exponent (e ∷ x)) Exponent k e (b ∷ s) (λ cs c. c)
-      (part-more (Each digit) (λ x. Exponent (e ∷ x)) k b s (λ cs c. exponent {s = []} t no-sign (digits (d .0) c)) (scaled-cut k s (d .1))))
+    part-more (λ x. Exponent (e ∷ x)) Exponent k e (b ∷ s) (λ cs c. c)
+    (part-more (Each digit) (λ x. Exponent (e ∷ x)) k b s (λ cs c. exponent {s = []} t no-sign (digits (d .0) c)) (scaled-cut k s (d .1))))
     (by-test s (sign b) _ _ h)
 
 -- the byte after the digits of a fraction, or of a number without one

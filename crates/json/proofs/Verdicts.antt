@@ -46,9 +46,9 @@ pub not-deep : (text : List ℕ) (i : ℕ) → ShallowTo text i → (length text
 not-deep text i shallow end (n, d) =
     ⊎-elim
     (λ past. ⊎-elim
-      (λ all. absurd (omega (arith, d .within)))
-      (λ e. begins-live (take n text) (d .begins) (dead-on text (i + 1) n (omega arith) e))
-      end)
+    (λ all. absurd (omega (arith, d .within)))
+    (λ e. begins-live (take n text) (d .begins) (dead-on text (i + 1) n (omega arith) e))
+    end)
     (λ within. not-deep-at text n _ refl (shallow n within) d)
     (cases-lt i n)
 
@@ -62,11 +62,14 @@ pub dead-not-json : (text : List ℕ) (i : ℕ) → i < length text → run begi
 dead-not-json text i h e = not-json text (ap accepts (ap (run begin) (sym (take-all (length text) text (omega arith))) ∙ dead-on text (i + 1) (length text) (omega arith) e))
 
 pub is-deep : (text : List ℕ) (i : ℕ) → i < length text → TooFar (run begin (take (i + 1) text)) → Deep text
-is-deep text i h far = (i + 1, record {
-  within = omega arith;
-  begins = live-begins (take (i + 1) text) (far .mode) (far .kinds) (far .is);
-  deep = omega (arith, far .deep, live-depth (take (i + 1) text) (far .mode) (far .kinds) (far .is));
-})
+is-deep text i h far = (
+  i + 1,
+  record {
+    within = omega arith;
+    begins = live-begins (take (i + 1) text) (far .mode) (far .kinds) (far .is);
+    deep = omega (arith, far .deep, live-depth (take (i + 1) text) (far .mode) (far .kinds) (far .is));
+  },
+)
 
 pub at-end : (text : List ℕ) (i : ℕ) (s : State) → length text ≤ i → run begin (take i text) ≡ s → run begin text ≡ s
 at-end text i s h e = ap (run begin) (sym (take-all i text h)) ∙ e

@@ -54,3 +54,7 @@ Deep text = (n : ℕ) × TooDeepAt text n
 -- the bytes are a JSON text
 abbrev pub IsJson : List ℕ → Type 0
 IsJson text = (tree : Json) × Text tree text
+
+-- the bytes are a text of at most one value
+abbrev pub OneTree : List ℕ → Type 0
+OneTree text = (t u : Json) → Text t text → Text u text → t ≡ u

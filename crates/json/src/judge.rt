@@ -1,6 +1,7 @@
 // Whether bytes are JSON.
 ghost use mathlib.Core.Path.{_≡_};
 ghost use Prim.Native.Nat.{_≤_};
+ghost use Rattle.json.specs.Beginnings.{OneTree};
 ghost use Rattle.json.specs.Machine.{accepts, begin, ending, step};
 ghost use Rattle.json.specs.Scanning.{figure-mode, mode-of, opened-in, stack, top};
 ghost use Rattle.json.specs.Verdict.{Judged, Stepped, state-of};
@@ -108,7 +109,8 @@ impl Scanner {
 
 // Whether the bytes are a JSON text: 52 where they are nested too deep, 53 where they are none, whichever shows first from the left.
 pub fn check(text: &[u8]) -> Result<(), Refusal>
-    ensures { λ r. ⌜ Judged (now (text .entry)) r ⌝ }
+    ensures judged { λ r. ⌜ Judged (now (text .entry)) r ⌝ }
+    ensures one_tree { λ _. ⌜ OneTree (now (text .entry)) ⌝ }
 {
     let mut scanner = Scanner::new();
     for byte in text {

@@ -19,8 +19,8 @@ returns c =
       pushed =
           ap (live (mode-of (c .match-container .self))) (stack-push xs d (c .args .container) room)
           ∙ elim (c .match-container .came) [
-            in-Array w ↦ (λ i. live (mode-of (w .self-is i)) (kind-of (w .in-Array .is i) ∷ k)) ∙ sym (ap (λ x. opened-in x k) (w .in-Array .is))
-          | in-Object w ↦ (λ i. live (mode-of (w .self-is i)) (kind-of (w .in-Object .is i) ∷ k)) ∙ sym (ap (λ x. opened-in x k) (w .in-Object .is))
+            | in-Array w ↦ (λ i. live (mode-of (w .self-is i)) (kind-of (w .in-Array .is i) ∷ k)) ∙ sym (ap (λ x. opened-in x k) (w .in-Array .is))
+            | in-Object w ↦ (λ i. live (mode-of (w .self-is i)) (kind-of (w .in-Object .is i) ∷ k)) ∙ sym (ap (λ x. opened-in x k) (w .in-Object .is))
           ];
       shallow = omega arith;
     }
