@@ -26,7 +26,8 @@ use Rattle.json.specs.Machine.{Kind, Mode, State, accepts, begin, closed, go-o
 use Rattle.json.specs.Machine.Kind.{arr, obj}
 use Rattle.json.specs.Machine.Mode.{value, first, name, opened, colon, after, chars, escaped, minused, zeroed, whole, pointed, places, powered, signed, scaled}
 use Rattle.json.specs.Machine.State.{dead, live}
-use Rattle.json.proofs.Runs.{Done, done-after, done-places, done-scaled, done-whole, done-zeroed, each-stays, follow, go-on-white, run-append, white-after, white-colon, white-first, white-name, white-opened, white-value, whole-from-value}
+use Rattle.json.specs.Parts.{follow}
+use Rattle.json.proofs.Runs.{Done, done-after, done-places, done-scaled, done-whole, done-zeroed, each-stays, go-on-white, run-append, white-after, white-colon, white-first, white-name, white-opened, white-value, whole-from-value}
 
 -- a number's state before its fraction, and before its exponent
 abbrev AtWhole : List Kind → State → Type 0

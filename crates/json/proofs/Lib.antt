@@ -6,3 +6,5 @@ pub mod Alive
 pub mod Stacks
 pub mod Verdicts
 pub mod Unique
+pub mod Skips
+pub mod Lengths

@@ -10,6 +10,7 @@ use Rattle.std.proofs.shelf.Tests.{cond-true, cond-false}
 use Rattle.std.proofs.shelf.Ways.{tells}
 use Rattle.json.specs.Grammar.{Each, White, digit, nonzero, power, white}
 use Rattle.json.specs.Grammar.Each.{no-byte, byte}
+use Rattle.json.specs.Parts.{follow}
 use Rattle.json.specs.Machine.{Kind, Mode, State, accepts, go-on, none-open, run, start, step}
 use Rattle.json.specs.Machine.Kind.{arr, obj}
 use Rattle.json.specs.Machine.Mode.{value, first, name, opened, colon, after, zeroed, whole, places, scaled}
@@ -50,10 +51,6 @@ white-colon k e = each-stays white (live colon k) (λ b t. cond-true _ _ _ t) e
 
 pub white-after : (k : List Kind) {w : List ℕ} → White w → run (live after k) w ≡ live after k
 white-after k e = each-stays white (live after k) (go-on-white k) e
-
--- what may follow a value: white space, a comma, the end of an array or an object
-abbrev pub follow : ℕ → Bool
-follow b = white b || (eqb b 44 || (eqb b 93 || eqb b 125))
 
 -- the state is that after a value, though a number may still go on
 pub record Done (k : List Kind) (s : State) : Type 0 where

@@ -26,19 +26,15 @@ use Rattle.json.specs.Grammar.Text.{text}
 use Rattle.json.specs.Grammar.Value.{is-null, is-true, is-false, is-number, is-string, empty-array, is-array, empty-object, is-object}
 use Rattle.json.specs.Grammar.Whole.{zero-alone, from-one}
 use Rattle.json.proofs.Complete.{split-element, split-member}
-use Rattle.json.proofs.Runs.{follow}
+use Rattle.json.specs.Parts.{Follows, follow, skip}
+use Rattle.json.specs.Parts.Follows.{ends, goes-on}
 
--- what is left after white space
-abbrev skip : List ℕ → List ℕ
-skip [] = []
-skip (b ∷ s) = cond (white b) (skip s) (b ∷ s)
-
-skip-white : {w : List ℕ} (s : List ℕ) → White w → skip (w ++ s) ≡ skip s
+pub skip-white : {w : List ℕ} (s : List ℕ) → White w → skip (w ++ s) ≡ skip s
 skip-white s no-byte = refl
 skip-white s (byte t more) = cond-true _ _ _ t ∙ skip-white s more
 
 -- bytes that numbers are made of
-abbrev numeric : ℕ → Bool
+abbrev pub numeric : ℕ → Bool
 numeric b = digit b || (sign b || (power b || eqb b 46))
 
 abbrev figures : List ℕ → List ℕ
@@ -48,11 +44,6 @@ figures (b ∷ s) = cond (numeric b) (b ∷ figures s) []
 past-figures : List ℕ → List ℕ
 past-figures [] = []
 past-figures (b ∷ s) = cond (numeric b) (past-figures s) (b ∷ s)
-
--- what may follow a value, or nothing
-pub data Follows : List ℕ → Type 0 where
-  ends : Follows []
-  goes-on : {b : ℕ} {s : List ℕ} → follow b ≡ true → Follows (b ∷ s)
 
 figures-all : {n : List ℕ} (r : List ℕ) → Each numeric n → Follows r → figures (n ++ r) ≡ n
 figures-all r no-byte ends = refl
@@ -76,7 +67,7 @@ each-digit (byte {b} t more) = byte (let h : numeric b ≡ true = grind (arith, 
 digits-numeric : {ds : List ℕ} → Digits ds → Each numeric ds
 digits-numeric (digits t more) = each-digit (byte t more)
 
-number-numeric : {n : List ℕ} → Number n → Each numeric n
+pub number-numeric : {n : List ℕ} → Number n → Each numeric n
 number-numeric (number m-is i-is f-is x-is) =
     each-append numeric (of-minus m-is) (each-append numeric (of-whole i-is) (each-append numeric (of-fraction f-is) (of-exponent x-is)))
   where

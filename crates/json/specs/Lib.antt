@@ -3,3 +3,5 @@ pub mod Beginnings
 pub mod Machine
 pub mod Scanning
 pub mod Verdict
+pub mod Parts
+pub mod Spots

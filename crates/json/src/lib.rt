@@ -2,9 +2,13 @@
 mod figure;
 mod judge;
 mod mode;
+mod nested;
+mod parts;
 mod quoted;
 mod scanner;
 mod structure;
 mod word;
 
 pub use judge::check;
+pub use parts::skip_white;
+pub use parts::split_value;
