@@ -164,7 +164,7 @@ closing-container o c bs r o-deep o-past c-deep middle =
     ∙ omega (arith, length-append bs (c ∷ []))
 
 -- a string ends at its first quote that no backslash stands before
-string-all : {cs : List ℕ} (r : List ℕ) → Chars cs → string-length (cs ++ (34 ∷ r)) ≡ suc (length cs)
+pub string-all : {cs : List ℕ} (r : List ℕ) → Chars cs → string-length (cs ++ (34 ∷ r)) ≡ suc (length cs)
 unfolding string-length escaped-length
 string-all r no-char = refl
 string-all r (char {b} t more) =

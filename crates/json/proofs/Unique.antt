@@ -232,8 +232,12 @@ solid r (is-array es) = (refl, refl)
 solid r (empty-object w) = (refl, refl)
 solid r (is-object ms) = (refl, refl)
 
+-- a value stands after white space as it is
+pub stands : {t : Json} {v w : List ℕ} (r : List ℕ) → White w → Value t v → skip (w ++ (v ++ r)) ≡ v ++ r
+stands {v} r w-is v-is = skip-white (v ++ r) w-is ∙ solid r v-is .0
+
 -- after white space a byte that may follow a value
-white-follows : {x : List ℕ} (b : ℕ) (r : List ℕ) → White x → follow b ≡ true → Follows (x ++ (b ∷ r))
+pub white-follows : {x : List ℕ} (b : ℕ) (r : List ℕ) → White x → follow b ≡ true → Follows (x ++ (b ∷ r))
 white-follows b r no-byte f = goes-on f
 white-follows b r (byte {b = c} t more) f = goes-on (let h : follow c ≡ true = grind (arith, tells) in h)
 

@@ -1,9 +1,10 @@
 // Takes a JSON text apart that is known to be one.
-ghost use mathlib.Core.List.{List, _++_};
+ghost use mathlib.Core.List.{List, [], _∷_, _++_};
 ghost use mathlib.Core.Path.{_≡_};
 ghost use Prim.Native.Nat.{ℕ, _≤_};
 ghost use lib.ListN.{length};
 ghost use Rattle.json.specs.Beginnings.Spot.{outside};
+ghost use Rattle.json.specs.Grammar.{Chars};
 ghost use Rattle.json.specs.Parts.{Split, closing, follow, scalar-length, skip, string-length, value-length};
 use crate::nested::closing_length;
 use crate::structure::is_white;
@@ -72,9 +73,10 @@ fn value_length(s: &[u8]) -> usize
     }
 }
 
-// The value at the front and what follows it, where the bytes begin with a value.
+// The value at the front and what follows it, where the bytes begin with a value; a string may be followed by anything.
 pub fn split_value(s: &[u8]) -> (&[u8], &[u8])
     ensures parts { λ r. ⌜ ((v rest : List ℕ) → Split (now (s .entry)) v rest → (now (r .0) ≡ v) × (now (r .1) ≡ rest)) ⌝ }
+    ensures text { λ r. ⌜ ((cs rest : List ℕ) → now (s .entry) ≡ 34 ∷ (cs ++ (34 ∷ rest)) → Chars cs → (now (r .0) ≡ 34 ∷ (cs ++ (34 ∷ []))) × (now (r .1) ≡ rest)) ⌝ }
     ensures whole { λ r. ⌜ now (r .0) ++ now (r .1) ≡ now (s .entry) ⌝ }
 {
     let length = value_length(s);
