@@ -9,8 +9,8 @@ use native.Mathlib.Omega.{arith}
 use lib.Dec.{leb, ltb}
 use lib.ListN.{length, getD, take}
 use Rattle.std.proofs.shelf.Lists.{append-assoc, append-nil}
-use Rattle.std.proofs.shelf.Tests.{and-from, and-left, and-right, cases-lt, cond-both, cond-true, cond-false, le-ltb, lt-ltb, ltb-true, ltb-false, or-from, or-left, or-right, not-from-true}
-use Rattle.runs.proofs.Ascends.{Rising, covers-append, covers-below, covers-past, rising-weaker, within-after, within-before, within-in}
+use Rattle.std.proofs.shelf.Tests.{both-ways, or-cases, and-from, and-left, and-right, cases-lt, cond-both, cond-true, cond-false, le-ltb, lt-ltb, ltb-true, ltb-false, or-from, or-left, or-right, not-from-true}
+use Rattle.runs.proofs.Ascends.{Rising, covers-append, covers-below, covers-past, rising-weaker, within-after, within-before, within-in, within-parts}
 use Rattle.runs.specs.Gaps.{between, edge, gap, highest}
 use Rattle.runs.specs.Stretches.{covers, within}
 use Rattle.runs.specs.declared.run.Run.{Run}
@@ -91,3 +91,22 @@ highest-last (r ∷ []) zero d h = refl
 highest-last (r ∷ []) (suc i) d h = absurd (omega arith)
 highest-last (r ∷ (s ∷ rs)) zero d h = absurd (omega arith)
 highest-last (r ∷ (s ∷ rs)) (suc i) d h = highest-last (s ∷ rs) i d (omega arith)
+
+-- the highest number lies in the runs, and no number above it does
+pub highest-covered : (low : ℕ) (rs : List Run) → Rising low rs → 0 < highest rs → covers rs (highest rs) ≡ true
+highest-covered low [] g h = absurd (omega arith)
+highest-covered low (r ∷ []) g h = or-left _ _ (within-in (r .last) r (g .1) (omega arith))
+highest-covered low (r ∷ (s ∷ rs)) g h = or-right (within (highest (s ∷ rs)) r) _ (highest-covered (r .last + 2) (s ∷ rs) (g .2) h)
+
+pub highest-bounds : (low : ℕ) (rs : List Run) (n : ℕ) → Rising low rs → covers rs n ≡ true → n ≤ highest rs
+highest-bounds low [] n g h = absurd (both-ways _ refl h)
+highest-bounds low (r ∷ []) n g h =
+    ⊎-elim
+    (λ here. let p = within-parts n r here in omega arith)
+    (λ later. absurd (both-ways _ refl later))
+    (or-cases (within n r) false h)
+highest-bounds low (r ∷ (s ∷ rs)) n g h =
+    ⊎-elim
+    (λ here. let up = highest-above low r (s ∷ rs) g in let p = within-parts n r here in omega arith)
+    (λ later. highest-bounds (r .last + 2) (s ∷ rs) n (g .2) later)
+    (or-cases (within n r) (covers (s ∷ rs) n) h)
