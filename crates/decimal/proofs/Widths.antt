@@ -64,6 +64,15 @@ value-from-text bytes n t = ap value (t .written) ∙ value-fixed-below (length 
 pub text-from-digits : (bytes : List ℕ) → 0 < length bytes → length bytes ≤ 18 → AllDigits bytes → FixedText bytes (value bytes)
 text-from-digits bytes some short h = record { some = some; short = short; below = value-below bytes h; written = sym (fixed-value bytes h) }
 
+-- the fixed text of a number of a known width, both ways
+pub text-of-width : (w n : ℕ) → 0 < w → w ≤ 18 → n < 10 ^ w → FixedText (fixed w n) n
+text-of-width w n some short below =
+    let long = length-fixed w n in
+    record { some = omega arith; short = omega arith; below = rw long below; written = ap (λ k. fixed k n) (sym long) }
+
+pub width-of-text : (w : ℕ) (bytes : List ℕ) (n : ℕ) → length bytes ≡ w → FixedText bytes n → (n < 10 ^ w) × (bytes ≡ fixed w n)
+width-of-text w bytes n long t = (subst (λ k. n < 10 ^ k) long (t .below), t .written ∙ ap (λ k. fixed k n) long)
+
 -- what reading the digits says of the fixed text, of the right length
 pub text-cases : (bytes : List ℕ) (r : Option ℕ) → 0 < length bytes → length bytes ≤ 18 → Cases r (AllDigits bytes → ⊥) (λ n. AllDigits bytes × (n ≡ min (value bytes) (2 ^ 64 - 1))) → Cases r ((n : ℕ) → FixedText bytes n → ⊥) (FixedText bytes)
 text-cases bytes None some short h = λ n t. h (digits-from-text bytes n t)

@@ -6,7 +6,7 @@ use native.Mathlib.Omega.{arith}
 use lib.ListN.{length, getD, take, drop, length-append, length-drop, length-take, take-append-drop}
 use lib.Seq.{drop-cons}
 use Rattle.std.proofs.shelf.Lists.{take-at, drop-at, getD-at, append-assoc}
-use Rattle.decimal.proofs.Widths.{length-fixed}
+use Rattle.decimal.proofs.Widths.{length-fixed, text-of-width, width-of-text}
 use Rattle.decimal.specs.Decimal.{FixedText, fixed}
 use Rattle.ids.specs.Ids.{Written, id-text}
 
@@ -18,20 +18,6 @@ take-five (a ∷ b ∷ []) h = absurd (omega arith)
 take-five (a ∷ b ∷ c ∷ []) h = absurd (omega arith)
 take-five (a ∷ b ∷ c ∷ d ∷ []) h = absurd (omega arith)
 take-five (a ∷ b ∷ c ∷ d ∷ e ∷ rest) h = refl
-
--- a fixed text of a known width
-text-of-width : (w n : ℕ) → 0 < w → w ≤ 18 → n < 10 ^ w → FixedText (fixed w n) n
-text-of-width w n some short below =
-    let long = length-fixed w n in
-    record {
-      some = omega arith;
-      short = omega arith;
-      below = rw long below;
-      written = ap (λ k. fixed k n) (sym long);
-    }
-
-width-of-text : (w : ℕ) (bytes : List ℕ) (n : ℕ) → length bytes ≡ w → FixedText bytes n → (n < 10 ^ w) × (bytes ≡ fixed w n)
-width-of-text w bytes n long t = (subst (λ k. n < 10 ^ k) long (t .below), t .written ∙ ap (λ k. fixed k n) long)
 
 -- an id's station, hyphen and session stand at their places
 pub record Parts (text : List ℕ) (station session : ℕ) : Type 0 where

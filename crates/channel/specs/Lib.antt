@@ -1,0 +1,4 @@
+pub mod Laws
+pub mod Members
+pub mod Places
+pub mod Ring

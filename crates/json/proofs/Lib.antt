@@ -1,0 +1,10 @@
+pub mod Runs
+pub mod Complete
+pub mod Tokens
+pub mod Sound
+pub mod Alive
+pub mod Stacks
+pub mod Verdicts
+pub mod Unique
+pub mod Skips
+pub mod Lengths

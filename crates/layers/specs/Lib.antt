@@ -1,0 +1,4 @@
+pub mod Below
+pub mod Limits
+pub mod Repeater
+pub mod Spool
