@@ -5,6 +5,7 @@ mod search;
 
 pub use events::Answer;
 pub use events::Event;
+pub use events::EventPartialEq;
 pub use events::EventType;
 pub use events::LARGEST_REGISTER;
 pub use events::LAST_ATTEMPT;
