@@ -10,12 +10,18 @@ use denote.Ref.{RefT}
 use Rattle.std.specs.Options.{Cases}
 use Rattle.std.specs.declared.option.Option.{Option}
 use Rattle.std.specs.declared.option.Option.the-variants.{Some, None}
-use Rattle.frame.specs.Walks.{Ahead}
-use Rattle.json.proofs.Complete.{split-member}
-use Rattle.json.proofs.Unique.{skip-white, stands, white-follows}
-use Rattle.json.specs.Grammar.{Chars, Json, Members, Membs, Value, White, white}
-use Rattle.json.specs.Grammar.Json.{jobject}
-use Rattle.json.specs.Grammar.Value.{empty-object, is-object}
+use Rattle.frame.specs.Kinds.{At}
+use Rattle.frame.specs.Walks.{Ahead, AheadIn, LeftIn}
+use Rattle.frame.proofs.Openings.{opening, opens}
+use Rattle.json.specs.Grammar.Each.{no-byte}
+use Rattle.std.proofs.shelf.Tests.{false≢true}
+use Rattle.json.proofs.Complete.{split-element, split-member}
+use Rattle.json.proofs.Unique.{no-bracket, skip-white, stands, white-follows}
+use Rattle.json.specs.Grammar.{Chars, Elements, Elems, Json, Members, Membs, Value, White, white}
+use Rattle.json.specs.Grammar.Elements.{last-element, next-element}
+use Rattle.json.specs.Grammar.Elems.{no-elem, elem}
+use Rattle.json.specs.Grammar.Json.{jarray, jobject}
+use Rattle.json.specs.Grammar.Value.{empty-array, empty-object, is-array, is-object}
 use Rattle.json.specs.Grammar.Members.{last-member, next-member}
 use Rattle.json.specs.Grammar.Membs.{no-memb, memb}
 use Rattle.json.specs.Parts.{Follows, skip}
@@ -116,3 +122,90 @@ inside ms object (is-object {bs} ms-are) = record {
         omega (arith, z),
   );
 }
+
+-- the first value of what is left of an array, and what follows it
+pub record FrontIn (es : Elems) (s : List ℕ) : Type 0 where
+  pub tree : Json
+  pub others : Elems
+  pub is : es ≡ elem tree others
+  pub value : List ℕ
+  pub behind : List ℕ
+  pub value-front : skip s ≡ value ++ behind
+  pub value-is : Value tree value
+  pub on : Follows behind
+  pub more : (((rest : List ℕ) → skip behind ≡ 44 ∷ rest → ⊥) × (others ≡ no-elem)) ⊎ ((rest : List ℕ) × (skip behind ≡ 44 ∷ rest) × AheadIn others rest)
+
+pub front-in : (es : Elems) (bs end s : List ℕ) → s ≡ bs ++ (93 ∷ end) → Elements es bs → FrontIn es s
+front-in es bs end s whole (last-element {e} {w} {v} {x} w-is v-is x-is) = record {
+  tree = e;
+  others = no-elem;
+  is = refl;
+  value = v;
+  behind = x ++ (93 ∷ end);
+  value-front = ap skip (whole ∙ split-element w v x (93 ∷ end)) ∙ stands (x ++ (93 ∷ end)) w-is v-is;
+  value-is = v-is;
+  on = white-follows 93 end x-is refl;
+  more = inl ((λ rest h. let z : _≡_ {A = ℕ} 93 44 = ap (λ l. getD l 0 0) (sym (skip-white (93 ∷ end) x-is) ∙ h) in omega (arith, z)), refl);
+}
+front-in es bs end s whole (next-element {e} {w} {v} {x} {es = others} {bs = more} w-is v-is x-is rest-are) = record {
+  tree = e;
+  others = others;
+  is = refl;
+  value = v;
+  behind = x ++ (44 ∷ (more ++ (93 ∷ end)));
+  value-front =
+      ap skip (whole ∙ split-element w v (x ++ (44 ∷ more)) (93 ∷ end) ∙ ap (λ l. w ++ (v ++ l)) (append-assoc x (44 ∷ more) (93 ∷ end)))
+      ∙ stands (x ++ (44 ∷ (more ++ (93 ∷ end)))) w-is v-is;
+  value-is = v-is;
+  on = white-follows 44 (more ++ (93 ∷ end)) x-is refl;
+  more = inr (more ++ (93 ∷ end), skip-white (44 ∷ (more ++ (93 ∷ end))) x-is, record { bytes = more; end = end; whole = refl; is = rest-are });
+}
+
+pub more-in : (others : Elems) (b behind : List ℕ) (o : Option (RefT (List ℕ))) → b ≡ behind
+    → Cases o ((rest : List ℕ) → skip b ≡ 44 ∷ rest → ⊥) (λ x. skip b ≡ 44 ∷ x .now)
+    → (((rest : List ℕ) → skip behind ≡ 44 ∷ rest → ⊥) × (others ≡ no-elem)) ⊎ ((rest : List ℕ) × (skip behind ≡ 44 ∷ rest) × AheadIn others rest)
+    → LeftIn others o
+more-in others b behind None e found (inl (no-comma, end)) = end
+more-in others b behind None e found (inr (rest, comma, ahead)) = absurd (found rest (ap skip e ∙ comma))
+more-in others b behind (Some x) e found (inl (no-comma, end)) = absurd (no-comma (x .now) (sym (ap skip e) ∙ found))
+more-in others b behind (Some x) e found (inr (rest, comma, ahead)) =
+    subst (AheadIn others) (ap (drop 1) (sym comma ∙ sym (ap skip e) ∙ found)) ahead
+
+-- what stands after the bracket of an array
+pub record InsideArray (es : Elems) (s : List ℕ) : Type 0 where
+  pub inner : List ℕ
+  pub bracket : skip s ≡ 91 ∷ inner
+  pub holds : ((es ≡ no-elem) × ((end : List ℕ) × (skip inner ≡ 93 ∷ end))) ⊎ (AheadIn es inner × ((rest : List ℕ) → skip inner ≡ 93 ∷ rest → ⊥))
+
+inside-value : (es : Elems) (v r : List ℕ) → Value (jarray es) v → InsideArray es (v ++ r)
+inside-value es v r (empty-array {w} w-is) =
+    record { inner = (w ++ (93 ∷ [])) ++ r; bracket = refl; holds = inl (refl, (r, ap skip (append-assoc w (93 ∷ []) r) ∙ skip-white (93 ∷ r) w-is)) }
+inside-value es v r (is-array {bs} es-are) = record {
+  inner = (bs ++ (93 ∷ [])) ++ r;
+  bracket = refl;
+  holds = inr (
+    record { bytes = bs; end = r; whole = append-assoc bs (93 ∷ []) r; is = es-are },
+    λ rest h.
+        let f = front-in es bs r ((bs ++ (93 ∷ [])) ++ r) (append-assoc bs (93 ∷ []) r) es-are in
+        no-bracket (f .value-is) (f .behind) rest (sym (f .value-front) ∙ h),
+  );
+}
+
+pub inside-array : (es : Elems) (s : List ℕ) → At (jarray es) s → InsideArray es s
+inside-array es s at =
+    let i = inside-value es (at .value) (at .behind) (at .is) in
+    let same : skip s ≡ at .value ++ at .behind = ap skip (at .whole) ∙ stands (at .behind) (at .white) (at .is) in
+    record { inner = i .inner; bracket = same ∙ sym (stands {w = []} (at .behind) no-byte (at .is)) ∙ i .bracket; holds = i .holds }
+
+-- the first byte after white space is the value's
+pub opens-at : (t : Json) (s : List ℕ) (b : ℕ) (rest : List ℕ) → At t s → skip s ≡ b ∷ rest → opening t b ≡ true
+opens-at t s b rest at e =
+    let same : skip s ≡ at .value ++ at .behind = ap skip (at .whole) ∙ stands (at .behind) (at .white) (at .is) in
+    subst (λ x. opening t x ≡ true) (ap (λ l. getD l 0 0) (sym same ∙ e)) (opens (at .behind) (at .is))
+
+abbrev none-in : Elems → Bool
+none-in no-elem = true
+none-in (elem e es) = false
+
+pub some-elem : (e : Json) (es : Elems) → elem e es ≡ no-elem → ⊥
+some-elem e es h = false≢true (ap none-in h)

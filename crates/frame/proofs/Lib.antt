@@ -1,2 +1,5 @@
 pub mod Fronts
 pub mod Looks
+pub mod Openings
+pub mod Fours
+pub mod Scalars

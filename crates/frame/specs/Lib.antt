@@ -1,3 +1,5 @@
 pub mod Members
 pub mod Walks
 pub mod Slots
+pub mod Kinds
+pub mod Call

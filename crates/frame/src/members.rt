@@ -3,7 +3,7 @@ ghost use mathlib.Core.List.{List, _∷_};
 ghost use mathlib.Core.Path.{_≡_};
 ghost use Prim.Native.Nat.{ℕ, _≤_, _<_};
 ghost use lib.ListN.{length};
-ghost use Rattle.frame.specs.Slots.{Found, added};
+ghost use Rattle.frame.specs.Slots.{Found, Optional, Required, added};
 ghost use Rattle.frame.specs.Walks.{Ahead, Taken, quoted};
 ghost use Rattle.json.specs.Grammar.{Membs, Value};
 ghost use Rattle.json.specs.Grammar.Json.{jobject};
@@ -13,6 +13,7 @@ ghost use Rattle.std.specs.Options.{Cases};
 use crate::slot::Slot;
 use json::skip_white;
 use json::split_value;
+use refusal::Refusal;
 
 // A member and what follows the comma after it, or nothing where it was the last. The name has its quotes.
 #[derive(Clone, Copy)]
@@ -23,7 +24,7 @@ pub struct Member<'a> {
 }
 
 // What follows the byte, where the bytes begin with it after white space.
-fn after<'a>(s: &'a [u8], byte: u8) -> Option<&'a [u8]>
+pub fn after<'a>(s: &'a [u8], byte: u8) -> Option<&'a [u8]>
     ensures found { λ r. ⌜ Cases r ((rest : List ℕ) → skip (now (s .entry)) ≡ byte ∷ rest → ⊥) (λ x. skip (now (s .entry)) ≡ byte ∷ now x) ⌝ }
     ensures shorter { λ r. ⌜ Cases r (Unit {0}) (λ x. length (now x) < length (now (s .entry))) ⌝ }
 {
@@ -91,4 +92,26 @@ pub fn find_member<'a>(object: &'a [u8], name: &[u8]) -> Slot<'a>
         left = member.rest;
     }
     found
+}
+
+// The value under a name that must stand once.
+pub fn required<'a>(object: &'a [u8], name: &[u8]) -> Result<&'a [u8], Refusal>
+    ensures { λ r. ⌜ ((called : List ℕ) (ms : Membs) → now (name .entry) ≡ quoted called → Value (jobject ms) (now (object .entry)) → Required called ms r) ⌝ }
+{
+    match find_member(object, name) {
+        Slot::Missing => Err(Refusal::BadMembers),
+        Slot::Once(value) => Ok(value),
+        Slot::Twice => Err(Refusal::BadMembers),
+    }
+}
+
+// The value under a name that may stand once.
+pub fn optional<'a>(object: &'a [u8], name: &[u8]) -> Result<Option<&'a [u8]>, Refusal>
+    ensures { λ r. ⌜ ((called : List ℕ) (ms : Membs) → now (name .entry) ≡ quoted called → Value (jobject ms) (now (object .entry)) → Optional called ms r) ⌝ }
+{
+    match find_member(object, name) {
+        Slot::Missing => Ok(None),
+        Slot::Once(value) => Ok(Some(value)),
+        Slot::Twice => Err(Refusal::BadMembers),
+    }
 }

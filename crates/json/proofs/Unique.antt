@@ -6,7 +6,7 @@ use Prim.Native.Nat.{ℕ, zero, suc, _+_, _*_, _≤_, _<_}
 use lib.Dec.{eqb, leb}
 use lib.ListN.{length, length-append}
 use native.Mathlib.Omega.{arith}
-use Rattle.std.proofs.shelf.Tests.{cond-true, cond-false}
+use Rattle.std.proofs.shelf.Tests.{cond-true, cond-false, true≢false}
 use Rattle.std.proofs.shelf.Ways.{tells}
 use Rattle.json.specs.Grammar.{Chars, Digits, Each, Elements, Elems, Exponent, Fraction, Json, Members, Membs, Minus, Number, Sign, Text, Value, White, Whole, digit, escapable, hex, nonzero, plain, power, sign, white}
 use Rattle.json.specs.Grammar.Chars.{no-char, char, escape, unicode}
@@ -235,6 +235,11 @@ solid r (is-object ms) = (refl, refl)
 -- a value stands after white space as it is
 pub stands : {t : Json} {v w : List ℕ} (r : List ℕ) → White w → Value t v → skip (w ++ (v ++ r)) ≡ v ++ r
 stands {v} r w-is v-is = skip-white (v ++ r) w-is ∙ solid r v-is .0
+
+-- it begins with no closing bracket
+pub no-bracket : {t : Json} {v : List ℕ} → Value t v → (r rest : List ℕ) → v ++ r ≡ 93 ∷ rest → ⊥
+unfolding head-is
+no-bracket v-is r rest e = true≢false (sym (ap (head-is 93) e) ∙ solid r v-is .1)
 
 -- after white space a byte that may follow a value
 pub white-follows : {x : List ℕ} (b : ℕ) (r : List ℕ) → White x → follow b ≡ true → Follows (x ++ (b ∷ r))
