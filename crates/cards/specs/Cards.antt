@@ -1,6 +1,7 @@
 -- The worked examples. Assumes nothing.
 use lib.Chars.{codes}
 use Rattle.calendar.specs.Calendar.{Denotes}
+use Rattle.cards.specs.Sessions.{SessionCards}
 use Rattle.cents.specs.Cents.{Priced}
 
 pub record Cards : Type 0 where
@@ -11,3 +12,5 @@ pub record Cards : Type 0 where
   pub below-half : Priced 14 350 0
   pub above-half : Priced 15 350 1
   pub a-session : Priced 12500 350 438
+  -- runs and a statement
+  pub sessions : SessionCards

@@ -2,12 +2,12 @@
 ghost use mathlib.Core.Path.{_≡_};
 ghost use Rattle.cards.specs.Cards.{Cards};
 
-const COUNT: u32 = 5;
+const COUNT: u32 = 13;
 
 // Each worked example holds of the definitions that the program is proved against; the answer is how many there are.
 pub fn worked_examples() -> u32
     ensures stand { λ _. ⌜ Cards ⌝ }
-    ensures count { λ r. ⌜ r ≡ 5 ⌝ }
+    ensures count { λ r. ⌜ r ≡ 13 ⌝ }
 {
     COUNT
 }

@@ -3,6 +3,7 @@ ghost use mathlib.Core.Path.{_≡_};
 ghost use Prim.Native.Nat.{ℕ, _+_, _-_, _%_, _^_, _<_, min};
 ghost use lib.ListN.{length};
 ghost use Rattle.std.specs.Options.{Cases};
+ghost use Rattle.std.specs.Written.{decimal};
 ghost use Rattle.decimal.specs.Decimal.{AllDigits, value, fixed, FixedText, PlainText};
 
 // The most digits that `fixed_value` reads: as many nines fit a u64.
@@ -60,4 +61,17 @@ pub fn write_fixed(number: u64, out: &mut [u8])
         out[i] = last_digit(rest);
         rest /= 10;
     }
+}
+
+// How many digits the number has where it is written with no needless leading 0.
+pub fn plain_width(number: u64) -> usize
+    ensures { λ r. ⌜ r ≡ length (decimal number) ⌝ }
+{
+    let mut width = 1;
+    let mut rest = number;
+    while rest >= 10 {
+        rest /= 10;
+        width += 1;
+    }
+    width
 }

@@ -2,6 +2,7 @@ use mathlib.Core.Path.{refl}
 use native.Mathlib.Omega.{arith}
 use Rattle.calendar.specs.Calendar.{Denotes, Lawful, month-length, second-of, sum, text-of}
 use Rattle.decimal.specs.Decimal.{fixed}
+use Rattle.cards.proofs.SessionCards.{session-cards}
 use Rattle.cards.specs.Cards.{Cards}
 use Rattle.cards.proofs.worked_examples.Needs as need
 use lib.Chars.{codes}
@@ -31,6 +32,7 @@ cards = record {
   below-half = omega arith;
   above-half = omega arith;
   a-session = omega arith;
+  sessions = session-cards;
 }
 
 pub returns : need.returns
