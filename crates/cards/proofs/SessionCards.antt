@@ -111,13 +111,22 @@ one-too-many =
 
 sessions-held : AllHeld [] two-sessions
 sessions-held =
-    all-held [] two-sessions
-    (lawful-first,
-    (lawful-reading 17 3 1 1800 (omega arith) (omega arith) (omega arith) (omega arith) (omega arith) (omega arith),
-    (lawful-end 17 3 2 13750 (omega arith) (omega arith) (omega arith) (omega arith) (omega arith) (omega arith),
-    (lawful-update 22 1 1 (omega arith) (omega arith) (omega arith) (omega arith) (omega arith),
-    (lawful-end 22 1 4 900 (omega arith) (omega arith) (omega arith) (omega arith) (omega arith) (omega arith),
-    tt)))))
+    all-held [] two-sessions (
+      lawful-first,
+      (
+        lawful-reading 17 3 1 1800 (omega arith) (omega arith) (omega arith) (omega arith) (omega arith) (omega arith),
+        (
+          lawful-end 17 3 2 13750 (omega arith) (omega arith) (omega arith) (omega arith) (omega arith) (omega arith),
+          (
+            lawful-update 22 1 1 (omega arith) (omega arith) (omega arith) (omega arith) (omega arith),
+            (
+              lawful-end 22 1 4 900 (omega arith) (omega arith) (omega arith) (omega arith) (omega arith) (omega arith),
+              tt,
+            ),
+          ),
+        ),
+      ),
+    )
     refl
 
 statement-is : statement-bytes two-sessions 350 ≡ codes "B 00017-00000003 12500 438\nO 00022-00000001 3 held 0-0,2-3\nT 1 1\n"
