@@ -1,4 +1,6 @@
 // Whole seconds from 2000-01-01T00:00:00Z to the end of 2099, and their written form `YYYY-MM-DDTHH:MM:SSZ`.
+#![tactic(auto)]
+
 ghost use Rattle.std.specs.Prelude.{◌≡◌, ℕ, ◌+◌, ◌-◌, ◌<◌, ◌≤◌, length, IfOk, MatchBool, MatchOption, MatchResult};
 ghost use Rattle.calendar.specs.Calendar.{month_length, days_before_month, year_length, days_before_year, Lawful, day_of, second_of, last_second, text_of, Denotes, NoSecond, NoText, ReadsBack, WritesBack};
 ghost use Rattle.calendar.specs.Form.{Marked, Field, NoCivil, with_digits};

@@ -1,4 +1,6 @@
 // The examination's worked examples, as one proved list.
+#![tactic(auto)]
+
 ghost use Rattle.std.specs.Prelude.{◌≡◌};
 ghost use Rattle.cards.specs.Cards.{Cards};
 

@@ -1,4 +1,6 @@
 // What a session's energy costs.
+#![tactic(auto)]
+
 ghost use Rattle.std.specs.Prelude.{◌≡◌};
 ghost use Rattle.cents.specs.Cents.{Charges};
 

@@ -1,4 +1,6 @@
 // Channels: what carries items from one side to another, and the ring, the channel at the bottom of every pile.
+#![tactic(auto)]
+
 mod channel;
 mod faults;
 mod ring;

@@ -1,6 +1,6 @@
 -- The verdict on a text. Assumes nothing.
 use Rattle.std.specs.Prelude.{ℕ, ◌<◌, ◌≤◌, List, length}
-use Rattle.json.specs.Beginnings.{Deep, IsJson}
+use Rattle.json_text.specs.Beginnings.{Deep, IsJson}
 use Rattle.conformance.specs.declared.verdict.Verdict.{Verdict}
 use Rattle.conformance.specs.declared.verdict.Verdict.TheVariants.{Json, NotJson, TooDeep, TooLong}
 

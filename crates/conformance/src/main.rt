@@ -1,4 +1,6 @@
 // Whether the JSON scanner judges the texts of a table as RFC 8259 does.
+#![tactic(auto)]
+
 mod count;
 mod encoded;
 mod piece;

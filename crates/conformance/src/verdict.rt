@@ -35,7 +35,7 @@ pub fn judge(text: &[u8]) -> Verdict
     if text.len() > LONGEST {
         return Verdict::TooLong;
     }
-    match json::check(text) {
+    match json_text::check(text) {
         Ok(()) => Verdict::Json,
         Err(Refusal::TooDeep) => Verdict::TooDeep,
         Err(_) => Verdict::NotJson,

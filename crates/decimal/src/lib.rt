@@ -1,4 +1,6 @@
 // Decimal numbers as bytes: of a fixed width, and plain.
+#![tactic(auto)]
+
 ghost use Rattle.std.specs.Prelude.{◌≡◌, ℕ, ◌+◌, ◌-◌, ◌%◌, ◌^◌, ◌<◌, min, length, decimal, MatchOption};
 ghost use Rattle.decimal.specs.Decimal.{AllDigits, value, fixed, FixedText, PlainText};
 

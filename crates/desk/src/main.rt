@@ -1,4 +1,6 @@
 // The settlement desk's program.
+#![tactic(auto)]
+
 mod bill;
 mod frames;
 mod invoice;

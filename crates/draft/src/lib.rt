@@ -1,4 +1,6 @@
 // The bytes of a text as it grows, at most 1,024.
+#![tactic(auto)]
+
 mod draft;
 mod pushing;
 

@@ -1,4 +1,6 @@
 // Transaction events of charging stations: what they are, which are lawful, their key numbers, and the search by key.
+#![tactic(auto)]
+
 mod events;
 mod keys;
 mod search;

@@ -4,9 +4,9 @@ use Rattle.frame.proofs.Fronts.{front_in}
 use Rattle.std.proofs.lemmas.Bool.{false≢true, true≢false}
 use Rattle.frame.specs.Call.{NotFour, array_of_four}
 use Rattle.frame.specs.Walks.{AheadIn, LeftIn}
-use Rattle.json.specs.Grammar.{Elems, Json}
-use Rattle.json.specs.Grammar.Elems.{no_elem, elem}
-use Rattle.json.specs.Grammar.Json.{jnull, jtrue, jfalse, jnumber, jstring, jarray, jobject}
+use Rattle.json_text.specs.Grammar.{Elems, Json}
+use Rattle.json_text.specs.Grammar.Elems.{no_elem, elem}
+use Rattle.json_text.specs.Grammar.Json.{jnull, jtrue, jfalse, jnumber, jstring, jarray, jobject}
 
 abbrev pub size : Elems → ℕ
 size no_elem = 0

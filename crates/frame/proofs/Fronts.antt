@@ -3,18 +3,18 @@ use Rattle.std.proofs.Common.{◌≡◌, ℕ, suc, ◌+◌, ◌<◌, ◌≤◌, 
 use Rattle.frame.specs.Kinds.{At}
 use Rattle.frame.specs.Walks.{Ahead, AheadIn, LeftIn}
 use Rattle.frame.proofs.Openings.{opening, opens}
-use Rattle.json.specs.Grammar.Each.{no_byte}
+use Rattle.json_text.specs.Grammar.Each.{no_byte}
 use Rattle.std.proofs.lemmas.Bool.{false≢true}
-use Rattle.json.proofs.Complete.{split_element, split_member}
-use Rattle.json.proofs.Unique.{no_bracket, skip_white, stands, white_follows}
-use Rattle.json.specs.Grammar.{Chars, Elements, Elems, Json, Members, Membs, Value, White, white}
-use Rattle.json.specs.Grammar.Elements.{last_element, next_element}
-use Rattle.json.specs.Grammar.Elems.{no_elem, elem}
-use Rattle.json.specs.Grammar.Json.{jarray, jobject}
-use Rattle.json.specs.Grammar.Value.{empty_array, empty_object, is_array, is_object}
-use Rattle.json.specs.Grammar.Members.{last_member, next_member}
-use Rattle.json.specs.Grammar.Membs.{no_memb, memb}
-use Rattle.json.specs.Parts.{Follows, skip}
+use Rattle.json_text.proofs.Complete.{split_element, split_member}
+use Rattle.json_text.proofs.Unique.{no_bracket, skip_white, stands, white_follows}
+use Rattle.json_text.specs.Grammar.{Chars, Elements, Elems, Json, Members, Membs, Value, White, white}
+use Rattle.json_text.specs.Grammar.Elements.{last_element, next_element}
+use Rattle.json_text.specs.Grammar.Elems.{no_elem, elem}
+use Rattle.json_text.specs.Grammar.Json.{jarray, jobject}
+use Rattle.json_text.specs.Grammar.Value.{empty_array, empty_object, is_array, is_object}
+use Rattle.json_text.specs.Grammar.Members.{last_member, next_member}
+use Rattle.json_text.specs.Grammar.Membs.{no_memb, memb}
+use Rattle.json_text.specs.Parts.{Follows, skip}
 
 pub first_rest : (s : List ℕ) (b : ℕ) → 0 < length s → get_or s 0 0 ≡ b → s ≡ b ∷ drop 1 s
 first_rest [] b h e = absurd (omega arith)

@@ -8,9 +8,9 @@ use Rattle.frame.specs.Slots.{SoFar, added}
 use Rattle.frame.specs.Walks.{Ahead, Taken, quoted}
 use Rattle.frame.specs.declared.slot.Slot.{Slot}
 use Rattle.frame.specs.declared.slot.Slot.TheVariants.{Missing, Once, Twice}
-use Rattle.json.specs.Grammar.{Json, Membs, Value}
-use Rattle.json.specs.Grammar.Json.{jobject}
-use Rattle.json.specs.Grammar.Membs.{no_memb, memb}
+use Rattle.json_text.specs.Grammar.{Json, Membs, Value}
+use Rattle.json_text.specs.Grammar.Json.{jobject}
+use Rattle.json_text.specs.Grammar.Membs.{no_memb, memb}
 use Rattle.std.specs.Str.{bytes_eq}
 
 same_true : (n called : List ℕ) → n ≡ called → bytes_eq n called ≡ true

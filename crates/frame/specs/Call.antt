@@ -2,9 +2,9 @@
 use Rattle.std.specs.Prelude.{◌≡◌, ℕ, List, [], ◌∷◌, codes, ◌≢◌}
 use Rattle.frame.specs.declared.call.Four.{Four}
 use Rattle.frame.specs.declared.call.Parts.{Parts}
-use Rattle.json.specs.Grammar.{Elems, Json, Membs, Value}
-use Rattle.json.specs.Grammar.Elems.{no_elem, elem}
-use Rattle.json.specs.Grammar.Json.{jarray, jnumber, jobject, jstring}
+use Rattle.json_text.specs.Grammar.{Elems, Json, Membs, Value}
+use Rattle.json_text.specs.Grammar.Elems.{no_elem, elem}
+use Rattle.json_text.specs.Grammar.Json.{jarray, jnumber, jobject, jstring}
 
 abbrev pub array_of_four : (a b c d : Json) → Json
 array_of_four a b c d = jarray (elem a (elem b (elem c (elem d no_elem))))

@@ -1,6 +1,6 @@
 -- Which value begins with which byte. Assumes nothing.
 use Rattle.std.specs.Prelude.{◌≡◌, ℕ, Bool, ◌||◌, List, ◌++◌}
-use Rattle.json.specs.Grammar.{Json, Value, White}
+use Rattle.json_text.specs.Grammar.{Json, Value, White}
 
 -- after white space the bytes begin with the value, whatever follows it
 pub record At (tree : Json) (s : List ℕ) : Type 0 where

@@ -4,7 +4,7 @@ use Rattle.std.specs.Borrow.{Bor}
 use Rattle.frame.specs.Members.{count, under}
 use Rattle.frame.specs.declared.slot.Slot.{Slot}
 use Rattle.frame.specs.declared.slot.Slot.TheVariants.{Missing, Once, Twice}
-use Rattle.json.specs.Grammar.{Json, Membs, Value}
+use Rattle.json_text.specs.Grammar.{Json, Membs, Value}
 use Rattle.refusal.specs.declared.Refusal.{Refusal}
 use Rattle.refusal.specs.declared.Refusal.TheVariants.{BadMembers}
 

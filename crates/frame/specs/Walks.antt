@@ -1,10 +1,10 @@
 -- One step through the members of an object. Assumes nothing.
 use Rattle.std.specs.Prelude.{◌≡◌, ℕ, ◌<◌, List, [], ◌∷◌, ◌++◌, length, Option, MatchOption, ◌≢◌}
 use Rattle.std.specs.Borrow.{Bor}
-use Rattle.json.specs.Grammar.{Elements, Elems, Json, Members, Membs, Value}
-use Rattle.json.specs.Grammar.Elems.{no_elem, elem}
-use Rattle.json.specs.Grammar.Json.{jarray}
-use Rattle.json.specs.Grammar.Membs.{no_memb, memb}
+use Rattle.json_text.specs.Grammar.{Elements, Elems, Json, Members, Membs, Value}
+use Rattle.json_text.specs.Grammar.Elems.{no_elem, elem}
+use Rattle.json_text.specs.Grammar.Json.{jarray}
+use Rattle.json_text.specs.Grammar.Membs.{no_memb, memb}
 
 -- a name as it is written
 abbrev pub quoted : List ℕ → List ℕ

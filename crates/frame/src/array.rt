@@ -1,7 +1,7 @@
 // Finds the array of four.
 ghost use Rattle.frame.specs.Call.{CallOf, FourOf, NoCall, NotFour};
 ghost use Rattle.frame.specs.Kinds.{At};
-ghost use Rattle.json.specs.Grammar.{Json};
+ghost use Rattle.json_text.specs.Grammar.{Json};
 ghost use Rattle.std.specs.Option.{MatchOption};
 
 use crate::call::{Four, Parts};

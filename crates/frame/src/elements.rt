@@ -1,11 +1,11 @@
 // The values of an array in a text that is known to be JSON.
 ghost use Rattle.frame.specs.Kinds.{At};
 ghost use Rattle.frame.specs.Walks.{AheadIn, NoValues, TakenOff, Values};
-ghost use Rattle.json.specs.Grammar.{Elems, Json};
+ghost use Rattle.json_text.specs.Grammar.{Elems, Json};
 ghost use Rattle.std.specs.Option.{MatchOption};
 
 use crate::members::after;
-use json::{skip_white, split_value};
+use json_text::{skip_white, split_value};
 
 // A value and what follows the comma after it, or nothing where it was the last.
 #[derive(Clone, Copy)]

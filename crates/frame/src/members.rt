@@ -2,13 +2,13 @@
 ghost use Rattle.std.specs.Prelude.{◌≡◌, ℕ, ◌<◌, ◌≤◌, List, ◌∷◌, length, IfSome, MatchOption, ◌≢◌};
 ghost use Rattle.frame.specs.Slots.{Found, Optional, Required, added};
 ghost use Rattle.frame.specs.Walks.{Ahead, Taken, quoted};
-ghost use Rattle.json.specs.Grammar.{Membs, Value};
-ghost use Rattle.json.specs.Grammar.Json.{jobject};
-ghost use Rattle.json.specs.Grammar.Membs.{no_memb};
-ghost use Rattle.json.specs.Parts.{skip};
+ghost use Rattle.json_text.specs.Grammar.{Membs, Value};
+ghost use Rattle.json_text.specs.Grammar.Json.{jobject};
+ghost use Rattle.json_text.specs.Grammar.Membs.{no_memb};
+ghost use Rattle.json_text.specs.Parts.{skip};
 
 use crate::slot::Slot;
-use json::{skip_white, split_value};
+use json_text::{skip_white, split_value};
 use refusal::Refusal;
 
 // A member and what follows the comma after it, or nothing where it was the last. The name has its quotes.

@@ -1,8 +1,8 @@
 // What kind of value bytes are that are known to be one, and which.
 ghost use Rattle.std.specs.Prelude.{◌≡◌, ℕ, List, codes, Decides, MatchBool, MatchOption, ◌≢◌};
 ghost use Rattle.frame.specs.Walks.{quoted};
-ghost use Rattle.json.specs.Grammar.{Json, Membs, Value};
-ghost use Rattle.json.specs.Grammar.Json.{jnumber, jobject, jstring};
+ghost use Rattle.json_text.specs.Grammar.{Json, Membs, Value};
+ghost use Rattle.json_text.specs.Grammar.Json.{jnumber, jobject, jstring};
 
 // The value is this string, given with its quotes.
 pub fn is_string(value: &[u8], word: &[u8]) -> bool

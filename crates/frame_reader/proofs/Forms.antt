@@ -14,9 +14,9 @@ use Rattle.frame_reader.specs.Values.{NoNumber, NoTime, TimeIn}
 use Rattle.frame_reader.proofs.Openings.{opening}
 use Rattle.frame_reader.proofs.Scalars.{first_opens, number_bytes_are}
 use Rattle.ids.specs.Ids.{id_text, message_id_text}
-use Rattle.json.specs.Grammar.{Json, Value}
-use Rattle.json.specs.Grammar.Json.{jnull, jtrue, jfalse, jnumber, jstring, jarray, jobject}
-use Rattle.json.specs.Grammar.Value.{is_true, is_false}
+use Rattle.json_text.specs.Grammar.{Json, Value}
+use Rattle.json_text.specs.Grammar.Json.{jnull, jtrue, jfalse, jnumber, jstring, jarray, jobject}
+use Rattle.json_text.specs.Grammar.Value.{is_true, is_false}
 use Rattle.refusal.specs.declared.Refusal.{Refusal}
 use Rattle.refusal.specs.declared.Refusal.TheVariants.{BadValue}
 use Rattle.std.proofs.lemmas.List.{take_at}

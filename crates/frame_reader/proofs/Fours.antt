@@ -4,10 +4,10 @@ use Rattle.frame_reader.proofs.Fronts.{front_in, head_elem}
 use Rattle.std.proofs.lemmas.Bool.{false≢true, true≢false}
 use Rattle.frame_reader.specs.Call.{NotFour, array_of_four}
 use Rattle.frame_reader.specs.Walks.{AheadIn, BehindIn, LeftIn}
-use Rattle.json.specs.Parts.{skip}
-use Rattle.json.specs.Grammar.{Elems, Json}
-use Rattle.json.specs.Grammar.Elems.{no_elem, elem}
-use Rattle.json.specs.Grammar.Json.{jnull, jtrue, jfalse, jnumber, jstring, jarray, jobject}
+use Rattle.json_text.specs.Parts.{skip}
+use Rattle.json_text.specs.Grammar.{Elems, Json}
+use Rattle.json_text.specs.Grammar.Elems.{no_elem, elem}
+use Rattle.json_text.specs.Grammar.Json.{jnull, jtrue, jfalse, jnumber, jstring, jarray, jobject}
 
 abbrev pub size : Elems → ℕ
 size no_elem = 0

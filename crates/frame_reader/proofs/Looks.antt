@@ -11,8 +11,8 @@ use Rattle.frame_reader.specs.declared.left.Left.{Left}
 use Rattle.frame_reader.specs.declared.left.Left.TheVariants.{More, Past}
 use Rattle.frame_reader.specs.declared.slot.Slot.{Slot}
 use Rattle.frame_reader.specs.declared.slot.Slot.TheVariants.{Missing, Once, Twice}
-use Rattle.json.specs.Grammar.{Json, Membs}
-use Rattle.json.specs.Grammar.Membs.{no_memb, memb}
+use Rattle.json_text.specs.Grammar.{Json, Membs}
+use Rattle.json_text.specs.Grammar.Membs.{no_memb, memb}
 use Rattle.refusal.specs.declared.Refusal.{Refusal}
 use Rattle.refusal.specs.declared.Refusal.TheVariants.{BadMembers}
 use Rattle.std.specs.Str.{bytes_eq}

@@ -9,9 +9,9 @@ use Rattle.frame_reader.proofs.Looks.{Optional}
 use Rattle.frame_reader.specs.Members.{chain, element_of, element_under, members_of, only_of, under}
 use Rattle.frame_reader.specs.Walks.{NoObject}
 use Rattle.frame_reader.proofs.Fours.{size}
-use Rattle.json.specs.Grammar.{Elems, Json, Membs, Value}
-use Rattle.json.specs.Grammar.Elems.{no_elem, elem}
-use Rattle.json.specs.Grammar.Json.{jnull, jtrue, jfalse, jnumber, jstring, jarray, jobject}
+use Rattle.json_text.specs.Grammar.{Elems, Json, Membs, Value}
+use Rattle.json_text.specs.Grammar.Elems.{no_elem, elem}
+use Rattle.json_text.specs.Grammar.Json.{jnull, jtrue, jfalse, jnumber, jstring, jarray, jobject}
 use Rattle.refusal.specs.declared.Refusal.{Refusal}
 use Rattle.std.proofs.lemmas.Bool.{false≢true}
 

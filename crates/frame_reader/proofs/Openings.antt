@@ -2,12 +2,12 @@
 use Rattle.std.proofs.Common.{◌≡◌, ℕ, Bool, true, false, cond, not, ◌&&◌, ◌||◌, eqb, leb, List, [], ◌∷◌, ◌++◌, get_or, sym, refl, ap, ◌∙◌, subst, arith}
 use Rattle.std.proofs.lemmas.Bool.{false≢true}
 use Rattle.std.proofs.lemmas.Bool.Decides.{nat_tests}
-use Rattle.json.specs.Grammar.{Elems, Json, Membs, Minus, Number, Value, Whole, digit, nonzero}
-use Rattle.json.specs.Grammar.Json.{jnull, jtrue, jfalse, jnumber, jstring, jarray, jobject}
-use Rattle.json.specs.Grammar.Minus.{no_minus, minus}
-use Rattle.json.specs.Grammar.Number.{number}
-use Rattle.json.specs.Grammar.Value.{is_null, is_true, is_false, is_number, is_string, empty_array, is_array, empty_object, is_object}
-use Rattle.json.specs.Grammar.Whole.{zero_alone, from_one}
+use Rattle.json_text.specs.Grammar.{Elems, Json, Membs, Minus, Number, Value, Whole, digit, nonzero}
+use Rattle.json_text.specs.Grammar.Json.{jnull, jtrue, jfalse, jnumber, jstring, jarray, jobject}
+use Rattle.json_text.specs.Grammar.Minus.{no_minus, minus}
+use Rattle.json_text.specs.Grammar.Number.{number}
+use Rattle.json_text.specs.Grammar.Value.{is_null, is_true, is_false, is_number, is_string, empty_array, is_array, empty_object, is_object}
+use Rattle.json_text.specs.Grammar.Whole.{zero_alone, from_one}
 
 -- the byte may open the value
 abbrev pub opening : Json → ℕ → Bool

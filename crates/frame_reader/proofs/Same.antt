@@ -22,12 +22,12 @@ use Rattle.frame_reader.proofs.Onlys.{not_both, same_some}
 use Rattle.ids.proofs.Leads.{SameNumbers, same_message}
 use Rattle.ids.specs.Ids.{MessageWritten}
 use Rattle.ids.specs.declared.MessageId.{MessageId}
-use Rattle.json.proofs.Unique.{one_tree}
-use Rattle.json.specs.Beginnings.{Deep, IsJson}
-use Rattle.json.specs.Grammar.{Json, Membs, Text}
-use Rattle.json.specs.Grammar.Text.{text}
-use Rattle.json.specs.Grammar.Json.{jnull, jtrue, jfalse, jnumber, jstring, jarray, jobject}
-use Rattle.json.specs.Grammar.Membs.{no_memb}
+use Rattle.json_text.proofs.Unique.{one_tree}
+use Rattle.json_text.specs.Beginnings.{Deep, IsJson}
+use Rattle.json_text.specs.Grammar.{Json, Membs, Text}
+use Rattle.json_text.specs.Grammar.Text.{text}
+use Rattle.json_text.specs.Grammar.Json.{jnull, jtrue, jfalse, jnumber, jstring, jarray, jobject}
+use Rattle.json_text.specs.Grammar.Membs.{no_memb}
 use Rattle.refusal.specs.declared.Refusal.{Refusal}
 use Rattle.refusal.specs.declared.Refusal.TheVariants.{BadMembers, NotJson, TooDeep}
 

@@ -3,9 +3,9 @@ use Rattle.std.proofs.Common.{◌≡◌, ℕ, ◌-◌, true, List, [], ◌∷◌
 use Rattle.frame_reader.specs.Walks.{quoted}
 use Rattle.frame_reader.proofs.Looks.{unquoted}
 use Rattle.frame_reader.proofs.Openings.{opening, opens, string_by}
-use Rattle.json.specs.Grammar.{Json, Value}
-use Rattle.json.specs.Grammar.Json.{jnull, jtrue, jfalse, jnumber, jstring, jarray, jobject}
-use Rattle.json.specs.Grammar.Value.{is_number, is_string}
+use Rattle.json_text.specs.Grammar.{Json, Value}
+use Rattle.json_text.specs.Grammar.Json.{jnull, jtrue, jfalse, jnumber, jstring, jarray, jobject}
+use Rattle.json_text.specs.Grammar.Value.{is_number, is_string}
 use Rattle.std.proofs.lemmas.List.{take_at}
 use Rattle.std.proofs.lemmas.Bool.{false≢true}
 

@@ -11,8 +11,8 @@ use Rattle.frame_reader.specs.declared.fields.Meter.{Meter}
 use Rattle.frame_reader.specs.declared.fields.Meter.TheVariants as meter
 use Rattle.frame_reader.specs.declared.fields.Sample.{Sample}
 use Rattle.frame_reader.proofs.Onlys.{not_both, same_some}
-use Rattle.json.specs.Grammar.{Json, Membs}
-use Rattle.json.specs.Grammar.Json.{jnumber}
+use Rattle.json_text.specs.Grammar.{Json, Membs}
+use Rattle.json_text.specs.Grammar.Json.{jnumber}
 
 -- the sample, by the number that its value is
 pub sampled_cases : (ms : Membs) (v : List ℕ) (r : Option ℕ) (u : Under (codes "value") ms v) → MeasuresRegister (under (codes "measurand") ms)

@@ -1,8 +1,8 @@
 -- The array of four that a call of TransactionEvent is. Assumes nothing.
 use Rattle.std.specs.Prelude.{◌≡◌, ℕ, List, codes, ◌≢◌}
-use Rattle.json.specs.Grammar.{Json, Membs}
-use Rattle.json.specs.Grammar.Elems.{no_elem, elem}
-use Rattle.json.specs.Grammar.Json.{jarray, jnumber, jobject, jstring}
+use Rattle.json_text.specs.Grammar.{Json, Membs}
+use Rattle.json_text.specs.Grammar.Elems.{no_elem, elem}
+use Rattle.json_text.specs.Grammar.Json.{jarray, jnumber, jobject, jstring}
 
 abbrev pub array_of_four : (a b c d : Json) → Json
 array_of_four a b c d = jarray (elem a (elem b (elem c (elem d no_elem))))

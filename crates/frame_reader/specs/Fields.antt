@@ -8,7 +8,7 @@ use Rattle.frame_reader.specs.declared.fields.Fields.{Fields}
 use Rattle.frame_reader.specs.declared.fields.Meter.{Meter}
 use Rattle.frame_reader.specs.declared.fields.Meter.TheVariants.{Absent, Sampled, Unreadable}
 use Rattle.frame_reader.specs.declared.fields.Sample.{Sample}
-use Rattle.json.specs.Grammar.{Json, Membs, Value}
+use Rattle.json_text.specs.Grammar.{Json, Membs, Value}
 use Rattle.refusal.specs.declared.Refusal.{Refusal}
 use Rattle.refusal.specs.declared.Refusal.TheVariants.{BadMembers}
 

@@ -11,9 +11,9 @@ use Rattle.event.specs.declared.events.TriggerReason.TheVariants.{CablePluggedIn
 use Rattle.frame_reader.specs.Call.{Call, NoCall}
 use Rattle.frame_reader.specs.Members.{count, element_under, object_under, under}
 use Rattle.ids.specs.Ids.{id_text, message_id_text}
-use Rattle.json.specs.Beginnings.{Deep, IsJson}
-use Rattle.json.specs.Grammar.{Json, Membs, Text}
-use Rattle.json.specs.Grammar.Json.{jfalse, jnumber, jstring, jtrue}
+use Rattle.json_text.specs.Beginnings.{Deep, IsJson}
+use Rattle.json_text.specs.Grammar.{Json, Membs, Text}
+use Rattle.json_text.specs.Grammar.Json.{jfalse, jnumber, jstring, jtrue}
 use Rattle.refusal.specs.declared.Refusal.{Refusal}
 use Rattle.refusal.specs.declared.Refusal.TheVariants.{BadMembers, BadValue, NotAFrame, NotJson, TextTooLong, TooDeep}
 

@@ -1,9 +1,9 @@
 -- Members of an object by their names, as they are written. Assumes nothing.
 use Rattle.std.specs.Prelude.{ℕ, suc, cond, List, Some, None, Option}
-use Rattle.json.specs.Grammar.{Elems, Json, Membs}
-use Rattle.json.specs.Grammar.Elems.{no_elem, elem}
-use Rattle.json.specs.Grammar.Json.{jnull, jtrue, jfalse, jnumber, jstring, jarray, jobject}
-use Rattle.json.specs.Grammar.Membs.{no_memb, memb}
+use Rattle.json_text.specs.Grammar.{Elems, Json, Membs}
+use Rattle.json_text.specs.Grammar.Elems.{no_elem, elem}
+use Rattle.json_text.specs.Grammar.Json.{jnull, jtrue, jfalse, jnumber, jstring, jarray, jobject}
+use Rattle.json_text.specs.Grammar.Membs.{no_memb, memb}
 use Rattle.std.specs.Str.{bytes_eq}
 
 -- what a value gives, where there is one

@@ -5,9 +5,9 @@ use Rattle.frame_reader.specs.Payload.{FoundAll}
 use Rattle.frame_reader.specs.Walks.{Begins, BehindIn}
 use Rattle.frame_reader.specs.declared.call.Four.{Four}
 use Rattle.frame_reader.specs.declared.call.Parts.{Parts}
-use Rattle.json.specs.Grammar.{Elems, Json, Membs, Value}
-use Rattle.json.specs.Grammar.Elems.{elem}
-use Rattle.json.specs.Grammar.Json.{jarray}
+use Rattle.json_text.specs.Grammar.{Elems, Json, Membs, Value}
+use Rattle.json_text.specs.Grammar.Elems.{elem}
+use Rattle.json_text.specs.Grammar.Json.{jarray}
 
 -- the value is an array of these values and the others
 pub record FourOf (tree : Json) (four : Four) : Type 0 where

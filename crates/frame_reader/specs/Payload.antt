@@ -3,7 +3,7 @@ use Rattle.std.specs.Prelude.{codes}
 use Rattle.frame_reader.specs.Fields.{IdFinds, MeterFinds}
 use Rattle.frame_reader.specs.Slots.{Bytes, Found, SoFar}
 use Rattle.frame_reader.specs.declared.payload.Payload.{Payload}
-use Rattle.json.specs.Grammar.{Membs}
+use Rattle.json_text.specs.Grammar.{Membs}
 
 -- under each name that is read
 pub record FoundAll (found : Payload) (ms : Membs) : Type 0 where

@@ -5,8 +5,8 @@ use Rattle.event.specs.declared.events.Event.{Event}
 use Rattle.frame_reader.specs.Frame.{Sampled, Tells, flag, measurand_text}
 use Rattle.frame_reader.specs.Members.{under}
 use Rattle.ids.specs.declared.MessageId.{MessageId}
-use Rattle.json.specs.Grammar.{Json, Membs}
-use Rattle.json.specs.Grammar.Json.{jnumber, jstring}
+use Rattle.json_text.specs.Grammar.{Json, Membs}
+use Rattle.json_text.specs.Grammar.Json.{jnumber, jstring}
 
 -- a missing flag is false
 abbrev pub FlagIs : Option Json → Bool → Type 0

@@ -2,8 +2,8 @@
 use Rattle.std.specs.Prelude.{◌≡◌, ℕ, ◌≤◌, List, decimal, ◌≢◌}
 use Rattle.calendar.specs.Calendar.{Denotes}
 use Rattle.event.specs.Lawful.{largest_register}
-use Rattle.json.specs.Grammar.{Json}
-use Rattle.json.specs.Grammar.Json.{jnumber, jstring}
+use Rattle.json_text.specs.Grammar.{Json}
+use Rattle.json_text.specs.Grammar.Json.{jnumber, jstring}
 
 -- the value is no number that a register could be
 abbrev pub NoNumber : Json → Type 0

@@ -3,11 +3,11 @@ use Rattle.std.specs.Prelude.{◌≡◌, ℕ, ◌⊎◌, List, [], ◌∷◌, �
 use Rattle.std.specs.Borrow.{Bor}
 use Rattle.frame_reader.specs.declared.left.Left.{Left}
 use Rattle.frame_reader.specs.declared.left.Left.TheVariants.{More, Past}
-use Rattle.json.specs.Grammar.{Elements, Elems, Json, Members, Membs, Value}
-use Rattle.json.specs.Grammar.Elems.{no_elem, elem}
-use Rattle.json.specs.Grammar.Json.{jarray, jobject}
-use Rattle.json.specs.Grammar.Membs.{no_memb, memb}
-use Rattle.json.specs.Parts.{Follows, skip}
+use Rattle.json_text.specs.Grammar.{Elements, Elems, Json, Members, Membs, Value}
+use Rattle.json_text.specs.Grammar.Elems.{no_elem, elem}
+use Rattle.json_text.specs.Grammar.Json.{jarray, jobject}
+use Rattle.json_text.specs.Grammar.Membs.{no_memb, memb}
+use Rattle.json_text.specs.Parts.{Follows, skip}
 
 -- a name as it is written
 abbrev pub quoted : List ℕ → List ℕ

@@ -2,7 +2,7 @@
 ghost use Rattle.frame_reader.specs.Call.{NoCall, NotFour};
 ghost use Rattle.frame_reader.specs.Kinds.{At};
 ghost use Rattle.frame_reader.specs.Parts.{CallOf, FourOf};
-ghost use Rattle.json.specs.Grammar.{Json};
+ghost use Rattle.json_text.specs.Grammar.{Json};
 ghost use Rattle.std.specs.Option.{MatchOption};
 
 use crate::call::{Four, Parts};
@@ -10,7 +10,7 @@ use crate::elements::{first_element, next_element};
 use crate::members::after;
 use crate::payload::find_all;
 use crate::texts::{is_string, is_two, string_bytes};
-use json::skip_white;
+use json_text::skip_white;
 
 // The first three values of the array at the front and what begins with the fourth, or none where it has fewer.
 pub fn four_values<'a>(s: &'a [u8]) -> Option<Four<'a>>

@@ -2,10 +2,10 @@
 ghost use Rattle.std.specs.Prelude.{ℕ, List, MatchOption};
 ghost use Rattle.frame_reader.specs.Kinds.{At};
 ghost use Rattle.frame_reader.specs.Walks.{AheadIn, NoValues, TakenOff, Values};
-ghost use Rattle.json.specs.Grammar.{Elems, Json};
+ghost use Rattle.json_text.specs.Grammar.{Elems, Json};
 
 use crate::members::after;
-use json::{skip_white, split_value};
+use json_text::{skip_white, split_value};
 
 // A value and what follows the comma after it, or nothing where it was the last.
 #[derive(Clone, Copy)]

@@ -2,7 +2,7 @@
 ghost use Rattle.frame_reader.specs.Fields.{Finds, MeterFinds, RegisterFinds};
 ghost use Rattle.frame_reader.specs.Payload.{FoundAll};
 ghost use Rattle.frame_reader.specs.Slots.{Found};
-ghost use Rattle.json.specs.Grammar.{Membs};
+ghost use Rattle.json_text.specs.Grammar.{Membs};
 ghost use Rattle.std.specs.Prelude.{codes};
 
 use crate::payload::Payload;

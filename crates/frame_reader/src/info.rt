@@ -3,8 +3,8 @@ ghost use Rattle.std.specs.Prelude.{◌≤◌, length, codes};
 ghost use Rattle.frame_reader.specs.Fields.{IdFinds};
 ghost use Rattle.frame_reader.specs.Slots.{Bytes, Found};
 ghost use Rattle.frame_reader.specs.Walks.{Through};
-ghost use Rattle.json.specs.Grammar.{Membs};
-ghost use Rattle.json.specs.Grammar.Json.{jobject};
+ghost use Rattle.json_text.specs.Grammar.{Membs};
+ghost use Rattle.json_text.specs.Grammar.Json.{jobject};
 
 use crate::members::{after, cut, find_member};
 use crate::slot::Slot;

@@ -1,4 +1,6 @@
 // Frames: the JSON text of a transmission.
+#![tactic(auto)]
+
 mod array;
 mod call;
 mod elements;

@@ -3,12 +3,12 @@ ghost use Rattle.std.specs.Prelude.{◌≡◌, ℕ, ◌<◌, ◌≤◌, List, �
 ghost use Rattle.frame_reader.specs.Lefts.{Shorter, bytes_of};
 ghost use Rattle.frame_reader.specs.Slots.{Bytes, Found, SoFar};
 ghost use Rattle.frame_reader.specs.Walks.{Ahead, Behind, LeftOf, Opened, Taken, Through, ThroughObject, quoted};
-ghost use Rattle.json.specs.Grammar.{Membs, Value};
-ghost use Rattle.json.specs.Parts.{skip};
+ghost use Rattle.json_text.specs.Grammar.{Membs, Value};
+ghost use Rattle.json_text.specs.Parts.{skip};
 
 use crate::left::Left;
 use crate::slot::Slot;
-use json::{skip_white, split_value};
+use json_text::{skip_white, split_value};
 
 // What follows the byte, where the bytes begin with it after white space.
 pub fn after<'a>(s: &'a [u8], byte: u8) -> Option<&'a [u8]>

@@ -3,7 +3,7 @@ ghost use Rattle.std.specs.Prelude.{◌≡◌, ℕ, ◌<◌, ◌≤◌, List, le
 ghost use Rattle.frame_reader.specs.Fields.{ElementFinds, MeterFinds, SampleFinds, SampledFinds, in_some};
 ghost use Rattle.frame_reader.specs.Slots.{Bytes, Found, SoFar};
 ghost use Rattle.frame_reader.specs.Walks.{Begins, FirstObject, NoObject, Taken, Through, ThroughObject};
-ghost use Rattle.json.specs.Grammar.{Json, Membs};
+ghost use Rattle.json_text.specs.Grammar.{Json, Membs};
 
 use crate::fields::Sample;
 use crate::left::Left;

@@ -2,7 +2,7 @@
 ghost use Rattle.std.specs.Prelude.{◌≡◌, ℕ, ◌≤◌, List, length};
 ghost use Rattle.frame_reader.specs.Payload.{FoundAll, SoFarAll};
 ghost use Rattle.frame_reader.specs.Walks.{Taken, ThroughObject};
-ghost use Rattle.json.specs.Grammar.{Membs};
+ghost use Rattle.json_text.specs.Grammar.{Membs};
 
 use crate::fields::Sample;
 use crate::info::find_id;

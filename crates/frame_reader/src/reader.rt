@@ -21,7 +21,7 @@ pub fn read(text: &[u8]) -> Result<Transmission, Refusal>
     if text.len() > LONGEST {
         return Err(Refusal::TextTooLong);
     }
-    json::check(text)?;
+    json_text::check(text)?;
     let Some(call) = find_call(text) else {
         return Err(Refusal::NotAFrame);
     };

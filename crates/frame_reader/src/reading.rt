@@ -7,7 +7,7 @@ ghost use Rattle.frame_reader.specs.Frame.{Says};
 ghost use Rattle.frame_reader.specs.Reading.{EventTold, FlagIs, MeasuresRegister, NoEvent, NoRegister, NoSampled, RegisterIs, SampleTells, SmallRegister};
 ghost use Rattle.frame_reader.specs.Members.{under};
 ghost use Rattle.ids.specs.Ids.{MessageWritten};
-ghost use Rattle.json.specs.Grammar.{Json, Membs};
+ghost use Rattle.json_text.specs.Grammar.{Json, Membs};
 
 use crate::fields::{Fields, Meter, Sample};
 use crate::texts::is_string;

@@ -1,8 +1,8 @@
 // What kind of value bytes are that are known to be one, and which.
 ghost use Rattle.std.specs.Prelude.{◌≡◌, ℕ, List, codes, Decides, MatchOption, ◌≢◌};
 ghost use Rattle.frame_reader.specs.Walks.{quoted};
-ghost use Rattle.json.specs.Grammar.{Json, Value};
-ghost use Rattle.json.specs.Grammar.Json.{jnumber, jstring};
+ghost use Rattle.json_text.specs.Grammar.{Json, Value};
+ghost use Rattle.json_text.specs.Grammar.Json.{jnumber, jstring};
 
 // The value is this string, given with its quotes.
 pub fn is_string(value: &[u8], word: &[u8]) -> bool

@@ -6,8 +6,8 @@ ghost use Rattle.event.specs.declared.events.TriggerReason.{TriggerReason as Rea
 ghost use Rattle.frame_reader.specs.Frame.{flag, reason_text, type_text};
 ghost use Rattle.frame_reader.specs.Values.{NoNumber, NoTime, TimeIn};
 ghost use Rattle.ids.specs.Ids.{id_text, message_id_text};
-ghost use Rattle.json.specs.Grammar.{Json, Value};
-ghost use Rattle.json.specs.Grammar.Json.{jnumber, jstring};
+ghost use Rattle.json_text.specs.Grammar.{Json, Value};
+ghost use Rattle.json_text.specs.Grammar.Json.{jnumber, jstring};
 
 use crate::texts::{is_string, string_bytes};
 use decimal::plain_value;

@@ -4,15 +4,15 @@ use Rattle.std.proofs.lemmas.Bool.Decides.{nat_tests}
 use Rattle.frame_reader.specs.Walks.{quoted}
 use Rattle.frame_writer.proofs.Values.{Sound, SoundMembers, SoundValues}
 use Rattle.frame_writer.specs.Compact.{compact, members, other_members, other_values, values}
-use Rattle.json.proofs.Unique.{number_numeric, numeric}
-use Rattle.json.specs.Beginnings.{Spot, deeper, depth, depth_from, past}
-use Rattle.json.specs.Beginnings.Spot.{outside, inside}
-use Rattle.json.specs.Grammar.{Chars, Each, Elems, Json, Membs, hex}
-use Rattle.json.specs.Grammar.Chars.{no_char, char, escape, unicode}
-use Rattle.json.specs.Grammar.Each.{no_byte, byte}
-use Rattle.json.specs.Grammar.Elems.{no_elem, elem}
-use Rattle.json.specs.Grammar.Json.{jnull, jtrue, jfalse, jnumber, jstring, jarray, jobject}
-use Rattle.json.specs.Grammar.Membs.{no_memb, memb}
+use Rattle.json_text.proofs.Unique.{number_numeric, numeric}
+use Rattle.json_text.specs.Beginnings.{Spot, deeper, depth, depth_from, past}
+use Rattle.json_text.specs.Beginnings.Spot.{outside, inside}
+use Rattle.json_text.specs.Grammar.{Chars, Each, Elems, Json, Membs, hex}
+use Rattle.json_text.specs.Grammar.Chars.{no_char, char, escape, unicode}
+use Rattle.json_text.specs.Grammar.Each.{no_byte, byte}
+use Rattle.json_text.specs.Grammar.Elems.{no_elem, elem}
+use Rattle.json_text.specs.Grammar.Json.{jnull, jtrue, jfalse, jnumber, jstring, jarray, jobject}
+use Rattle.json_text.specs.Grammar.Membs.{no_memb, memb}
 
 -- how many arrays and objects stand in one another
 abbrev mutual

@@ -15,8 +15,8 @@ use Rattle.frame_writer.proofs.Values.{Sound, SoundMembers, text_is}
 use Rattle.frame_writer.specs.Tree.{WrittenForm, bytes_of, message_id, meter, meter_value, payload, payload_with, sample, transaction_info, tree_of}
 use Rattle.frame_reader.proofs.Same.{reads_as}
 use Rattle.frame_writer.specs.Writing.{OneForm, ReadBack}
-use Rattle.json.specs.Beginnings.{Deep}
-use Rattle.json.specs.Grammar.{Chars}
+use Rattle.json_text.specs.Beginnings.{Deep}
+use Rattle.json_text.specs.Grammar.{Chars}
 
 -- the flag and the register, one case after the other
 flag_sound : (b : Bool) → Sound (flag b)

@@ -11,9 +11,9 @@ use Rattle.frame_reader.specs.Frame.{flag, reason_text, type_text}
 use Rattle.frame_writer.specs.Compact.{compact, members, other_members}
 use Rattle.frame_writer.specs.Tree.{bytes_of, message_id, meter_value, payload, payload_with}
 use Rattle.ids.specs.Ids.{id_text, message_id_text}
-use Rattle.json.specs.Grammar.{Json, Membs}
-use Rattle.json.specs.Grammar.Json.{jnumber, jobject, jstring}
-use Rattle.json.specs.Grammar.Membs.{no_memb, memb}
+use Rattle.json_text.specs.Grammar.{Json, Membs}
+use Rattle.json_text.specs.Grammar.Json.{jnumber, jobject, jstring}
+use Rattle.json_text.specs.Grammar.Membs.{no_memb, memb}
 
 pub id_length : (station session : ℕ) → length (id_text station session) ≡ 14
 unfolding fixed

@@ -10,14 +10,14 @@ use Rattle.event.specs.declared.events.TriggerReason.{TriggerReason}
 use Rattle.event.specs.declared.events.TriggerReason.TheVariants.{CablePluggedIn, MeterValuePeriodic, EVDeparted}
 use Rattle.frame_reader.specs.Frame.{reason_text, type_text}
 use Rattle.ids.specs.Ids.{id_text, message_id_text}
-use Rattle.json.specs.Grammar.{Chars, Each, Number, Whole, digit, nonzero, plain}
-use Rattle.json.specs.Grammar.Chars.{no_char, char, escape, unicode}
-use Rattle.json.specs.Grammar.Each.{no_byte, byte}
-use Rattle.json.specs.Grammar.Exponent.{no_exponent}
-use Rattle.json.specs.Grammar.Fraction.{no_fraction}
-use Rattle.json.specs.Grammar.Minus.{no_minus}
-use Rattle.json.specs.Grammar.Number.{number}
-use Rattle.json.specs.Grammar.Whole.{zero_alone, from_one}
+use Rattle.json_text.specs.Grammar.{Chars, Each, Number, Whole, digit, nonzero, plain}
+use Rattle.json_text.specs.Grammar.Chars.{no_char, char, escape, unicode}
+use Rattle.json_text.specs.Grammar.Each.{no_byte, byte}
+use Rattle.json_text.specs.Grammar.Exponent.{no_exponent}
+use Rattle.json_text.specs.Grammar.Fraction.{no_fraction}
+use Rattle.json_text.specs.Grammar.Minus.{no_minus}
+use Rattle.json_text.specs.Grammar.Number.{number}
+use Rattle.json_text.specs.Grammar.Whole.{zero_alone, from_one}
 use Rattle.std.proofs.lemmas.Bool.{and_parts, cases_lt}
 use Rattle.std.proofs.lemmas.Bool.Decides.{nat_tests}
 

@@ -2,15 +2,15 @@
 use Rattle.std.proofs.Common.{◌≡◌, ℕ, List, [], ◌∷◌, ◌++◌, sym, ap, subst, append_assoc, append-nil}
 use Rattle.frame_reader.specs.Walks.{quoted}
 use Rattle.frame_writer.specs.Compact.{compact, members, other_members, other_values, values}
-use Rattle.json.specs.Grammar.{Chars, Elements, Elems, Json, Members, Membs, Number, Text, Value}
-use Rattle.json.specs.Grammar.Each.{no_byte}
-use Rattle.json.specs.Grammar.Elements.{last_element, next_element}
-use Rattle.json.specs.Grammar.Elems.{no_elem, elem}
-use Rattle.json.specs.Grammar.Json.{jnull, jtrue, jfalse, jnumber, jstring, jarray, jobject}
-use Rattle.json.specs.Grammar.Members.{last_member, next_member}
-use Rattle.json.specs.Grammar.Membs.{no_memb, memb}
-use Rattle.json.specs.Grammar.Text.{text}
-use Rattle.json.specs.Grammar.Value.{is_null, is_true, is_false, is_number, is_string, empty_array, is_array, empty_object, is_object}
+use Rattle.json_text.specs.Grammar.{Chars, Elements, Elems, Json, Members, Membs, Number, Text, Value}
+use Rattle.json_text.specs.Grammar.Each.{no_byte}
+use Rattle.json_text.specs.Grammar.Elements.{last_element, next_element}
+use Rattle.json_text.specs.Grammar.Elems.{no_elem, elem}
+use Rattle.json_text.specs.Grammar.Json.{jnull, jtrue, jfalse, jnumber, jstring, jarray, jobject}
+use Rattle.json_text.specs.Grammar.Members.{last_member, next_member}
+use Rattle.json_text.specs.Grammar.Membs.{no_memb, memb}
+use Rattle.json_text.specs.Grammar.Text.{text}
+use Rattle.json_text.specs.Grammar.Value.{is_null, is_true, is_false, is_number, is_string, empty_array, is_array, empty_object, is_object}
 
 -- every number, string and name of the tree is one
 abbrev mutual

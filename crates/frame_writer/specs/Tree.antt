@@ -7,10 +7,10 @@ use Rattle.frame_reader.specs.Call.{array_of_four}
 use Rattle.frame_reader.specs.Frame.{flag, measurand_text, reason_text, type_text}
 use Rattle.frame_writer.specs.Compact.{compact}
 use Rattle.ids.specs.Ids.{id_text, message_id_text}
-use Rattle.json.specs.Grammar.{Json, Membs}
-use Rattle.json.specs.Grammar.Elems.{no_elem, elem}
-use Rattle.json.specs.Grammar.Json.{jarray, jnumber, jobject, jstring}
-use Rattle.json.specs.Grammar.Membs.{no_memb, memb}
+use Rattle.json_text.specs.Grammar.{Json, Membs}
+use Rattle.json_text.specs.Grammar.Elems.{no_elem, elem}
+use Rattle.json_text.specs.Grammar.Json.{jarray, jnumber, jobject, jstring}
+use Rattle.json_text.specs.Grammar.Membs.{no_memb, memb}
 
 -- an array of one object
 abbrev pub one_object : Membs → Json

@@ -1,4 +1,6 @@
 // Writing frames: the JSON text of a transmission.
+#![tactic(auto)]
+
 mod pieces;
 mod words;
 mod writing;

@@ -4,7 +4,7 @@ ghost use Rattle.draft.specs.Growing.{most, text_in};
 ghost use Rattle.frame_writer.specs.Compact.{members, other_members};
 ghost use Rattle.frame_writer.specs.Tree.{bytes_of, message_id, meter_value, payload_with};
 ghost use Rattle.ids.specs.Ids.{id_text};
-ghost use Rattle.json.specs.Grammar.Membs.{no_memb};
+ghost use Rattle.json_text.specs.Grammar.Membs.{no_memb};
 
 use crate::words::{flag_word, reason_word, type_word};
 use draft::Draft;

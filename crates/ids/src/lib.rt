@@ -1,4 +1,6 @@
 // Transaction ids: a station and a session as `00017-00000003`. Message ids have number and attempt, too.
+#![tactic(auto)]
+
 mod message;
 
 ghost use Rattle.std.specs.Prelude.{◌≡◌, Decides};

@@ -1,4 +1,6 @@
 // What the invoicing package, written in C, calls.
+#![tactic(auto)]
+
 mod frames;
 
 ghost use Rattle.invoicing.specs.Exports.{Charged};

@@ -1,4 +1,6 @@
 // Layers: channels that stand above any other channel, in piles of any height and order.
+#![tactic(auto)]
+
 mod repeater;
 mod spool;
 

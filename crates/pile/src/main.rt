@@ -1,4 +1,6 @@
 // Shows what piles of channels do, step by step: what waits, what is held, and what is refused by which layer.
+#![tactic(auto)]
+
 mod answers;
 mod items;
 mod over_hall;

@@ -1,4 +1,6 @@
 // Why a call refuses: one enum for the whole project, each case with its number and a plain sentence.
+#![tactic(auto)]
+
 ghost use Rattle.std.specs.Prelude.{◌≡◌};
 ghost use Rattle.refusal.specs.Numbers.{fault_in, number_for};
 

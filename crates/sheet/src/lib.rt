@@ -1,4 +1,6 @@
 // Invoicing a sheet of meter readings, one session to a line.
+#![tactic(auto)]
+
 mod entry;
 mod read;
 mod totals;

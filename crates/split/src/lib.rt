@@ -1,4 +1,6 @@
 // Cuts a text of bytes at a separator, as at a line feed or a space.
+#![tactic(auto)]
+
 ghost use Rattle.std.specs.Prelude.{◌≡◌, ◌+◌, ◌<◌, ◌≤◌, length, slice_index};
 ghost use Rattle.split.specs.Split.{Cut, Free, after, before};
 

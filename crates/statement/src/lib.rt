@@ -1,4 +1,6 @@
 // The statement: the rows of a ledger as invoice lines, at a price.
+#![tactic(auto)]
+
 mod line;
 mod part;
 mod rows;

@@ -1,8 +1,8 @@
 use Rattle.std.proofs.Common.{◌≡◌, sym, ap, ◌∙◌, arith}
 use Rattle.frame.proofs.Fours.{ahead_of, none_left, not_four, nothing_left, size, size_of, some_left}
 use Rattle.frame.proofs.array.four_values.Goals as goal
-use Rattle.json.specs.Grammar.Elems.{elem}
-use Rattle.json.specs.Grammar.Json.{jarray}
+use Rattle.json_text.specs.Grammar.Elems.{elem}
+use Rattle.json_text.specs.Grammar.Json.{jarray}
 
 pub returns-in-err-first-element : goal.returns-in-err-first-element
 returns-in-err-first-element c = λ tree at. rw c.from-residual.ensures (λ p q r s is. c.in-err-first-element.ensures tree at p _ is)

@@ -4,8 +4,8 @@ use Rattle.frame.specs.Walks.{AheadIn}
 use Rattle.frame.proofs.Fronts.{inside_array, opens_at, some_elem}
 use Rattle.frame.proofs.Openings.{array_by}
 use Rattle.frame.proofs.elements.first_element.Goals as goal
-use Rattle.json.specs.Grammar.Elems.{elem}
-use Rattle.json.specs.Parts.{skip}
+use Rattle.json_text.specs.Grammar.Elems.{elem}
+use Rattle.json_text.specs.Parts.{skip}
 
 pub returns-in-err-inside : goal.returns-in-err-inside
 returns-in-err-inside c = λ tree at. rw c.from-residual.ensures (λ e es is.

@@ -1,7 +1,7 @@
 use Rattle.std.proofs.Common.{◌≡◌, sym, ◌∙◌, subst}
 use Rattle.frame.proofs.Fronts.{front_in, more_in}
 use Rattle.frame.proofs.elements.next_element.Goals as goal
-use Rattle.json.specs.Grammar.{Value}
+use Rattle.json_text.specs.Grammar.{Value}
 
 pub returns : goal.returns
 returns c = λ es ahead.

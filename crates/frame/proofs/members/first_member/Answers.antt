@@ -2,7 +2,7 @@ use Rattle.std.proofs.Common.{◌≡◌, ◌∷◌, drop, sym, ap, ◌∙◌, su
 use Rattle.frame.specs.Walks.{Ahead}
 use Rattle.frame.proofs.Fronts.{Inside, inside}
 use Rattle.frame.proofs.members.first_member.Goals as goal
-use Rattle.json.specs.Parts.{skip}
+use Rattle.json_text.specs.Parts.{skip}
 
 pub returns-in-err-inside : goal.returns-in-err-inside
 returns-in-err-inside c = λ ms v. let i = inside ms c.args.object.now v in absurd (c.in-err-inside.ensures.found i.inner i.brace)

@@ -1,8 +1,8 @@
 use Rattle.std.proofs.Common.{◌≡◌, ◌≤◌, length, sym, ap, ◌∙◌, subst, arith, length-append}
 use Rattle.frame.proofs.Fronts.{front, more_from, shorter_from, skip_short}
 use Rattle.frame.proofs.members.next_member.Goals as goal
-use Rattle.json.specs.Grammar.{Value}
-use Rattle.json.specs.Parts.{skip}
+use Rattle.json_text.specs.Grammar.{Value}
+use Rattle.json_text.specs.Parts.{skip}
 
 pub returns : goal.returns
 returns c =

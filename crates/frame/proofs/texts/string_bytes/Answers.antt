@@ -1,7 +1,7 @@
 use Rattle.std.proofs.Common.{◌≡◌, [], ◌∷◌, length, get_or, sym, ap, ◌∙◌, arith, length-append}
 use Rattle.frame.proofs.Scalars.{string_bytes_are, string_first, unquoted_bytes}
 use Rattle.frame.proofs.texts.string_bytes.Goals as goal
-use Rattle.json.specs.Grammar.Json.{jstring}
+use Rattle.json_text.specs.Grammar.Json.{jstring}
 
 pub returns-then-value-lt2 : goal.returns-then-value-lt2
 returns-then-value-lt2 c = λ tree v-is s e.

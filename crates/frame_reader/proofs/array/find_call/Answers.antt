@@ -3,8 +3,8 @@ use Rattle.frame_reader.proofs.Fours.{nothing_left, same_front, size, some_left}
 use Rattle.frame_reader.proofs.array.find_call.Goals as goal
 use Rattle.frame_reader.proofs.Fronts.{braced, more_in, opened, opens_with, skipped}
 use Rattle.frame_reader.proofs.Openings.{object_by}
-use Rattle.json.specs.Grammar.Elems.{elem}
-use Rattle.json.specs.Grammar.Json.{jarray}
+use Rattle.json_text.specs.Grammar.Elems.{elem}
+use Rattle.json_text.specs.Grammar.Json.{jarray}
 use Rattle.std.proofs.lemmas.Bool.{true≢false}
 
 pub returns-in-err-four : goal.returns-in-err-four

@@ -3,8 +3,8 @@ use Rattle.frame_reader.specs.Walks.{AheadIn}
 use Rattle.frame_reader.proofs.Fronts.{inside_array, opens_at, some_elem}
 use Rattle.frame_reader.proofs.Openings.{array_by}
 use Rattle.frame_reader.proofs.elements.first_element.Goals as goal
-use Rattle.json.specs.Grammar.Elems.{elem}
-use Rattle.json.specs.Parts.{skip}
+use Rattle.json_text.specs.Grammar.Elems.{elem}
+use Rattle.json_text.specs.Parts.{skip}
 
 pub returns-in-err-inside : goal.returns-in-err-inside
 returns-in-err-inside c = λ tree at. rw c.from-residual.ensures (λ e es is.

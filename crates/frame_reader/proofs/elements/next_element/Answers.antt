@@ -1,8 +1,8 @@
 use Rattle.std.proofs.Common.{sym, subst}
 use Rattle.frame_reader.proofs.Fronts.{front_in, more_in, split_of}
 use Rattle.frame_reader.proofs.elements.next_element.Goals as goal
-use Rattle.json.specs.Grammar.{Value}
-use Rattle.json.specs.Parts.{Split}
+use Rattle.json_text.specs.Grammar.{Value}
+use Rattle.json_text.specs.Parts.{Split}
 
 pub returns : goal.returns
 returns c = λ es end ahead.

@@ -1,7 +1,7 @@
 use Rattle.std.proofs.Common.{length, sym, ap, subst, arith, length-append}
 use Rattle.frame_reader.proofs.Fronts.{split_of}
 use Rattle.frame_reader.proofs.members.cut.Goals as goal
-use Rattle.json.specs.Grammar.{Value}
+use Rattle.json_text.specs.Grammar.{Value}
 
 pub returns : goal.returns
 returns c = record {

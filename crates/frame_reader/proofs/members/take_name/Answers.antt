@@ -2,7 +2,7 @@ use Rattle.std.proofs.Common.{length, sym, ap, ◌∙◌, subst, arith, length-a
 use Rattle.frame_reader.specs.Walks.{Begins}
 use Rattle.frame_reader.proofs.Fronts.{front, skip_short}
 use Rattle.frame_reader.proofs.members.take_name.Goals as goal
-use Rattle.json.specs.Parts.{skip}
+use Rattle.json_text.specs.Parts.{skip}
 
 pub returns : goal.returns
 returns c =

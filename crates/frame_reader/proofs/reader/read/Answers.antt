@@ -5,7 +5,7 @@ use Rattle.frame_reader.proofs.Same.{at_text, not_checked, not_named, reads_as, 
 use Rattle.frame_reader.proofs.reader.read.Goals as goal
 use Rattle.frame_reader.proofs.reader.read.Goals.{In-Some}
 use Rattle.frame_reader.specs.Payload.{FoundAll}
-use Rattle.json.specs.Grammar.{Membs}
+use Rattle.json_text.specs.Grammar.{Membs}
 use Rattle.refusal.specs.declared.Refusal.TheVariants.{BadValue, NotAFrame, TextTooLong}
 
 pub returns-then-text-gt-LONGEST : goal.returns-then-text-gt-LONGEST

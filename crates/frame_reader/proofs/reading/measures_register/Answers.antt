@@ -2,7 +2,7 @@ use Rattle.std.proofs.Common.{◌≡◌, refl}
 use Rattle.frame_reader.specs.Frame.{measurand_text}
 use Rattle.frame_reader.proofs.Onlys.{in_present, present, value_some}
 use Rattle.frame_reader.proofs.reading.measures_register.Goals as goal
-use Rattle.json.specs.Grammar.Json.{jstring}
+use Rattle.json_text.specs.Grammar.Json.{jstring}
 
 pub returns-in-Some : goal.returns-in-Some
 returns-in-Some c = λ tree v.

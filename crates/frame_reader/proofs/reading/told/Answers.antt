@@ -3,7 +3,7 @@ use Rattle.frame_reader.specs.Members.{chain, members_of}
 use Rattle.frame_reader.proofs.Onlys.{in_id, same_some, value_if}
 use Rattle.frame_reader.proofs.Same.{same_number}
 use Rattle.frame_reader.proofs.reading.told.Goals as goal
-use Rattle.json.specs.Grammar.Json.{jnumber}
+use Rattle.json_text.specs.Grammar.Json.{jnumber}
 
 pub returns-then-branch-message : goal.returns-then-branch-message
 returns-then-branch-message c = λ payload f e lawful t.

@@ -1,7 +1,7 @@
 use Rattle.std.proofs.Common.{length, take, sym, ap, ◌∙◌, arith}
 use Rattle.frame_reader.proofs.Forms.{front_long, front_text, same_string}
 use Rattle.frame_reader.proofs.values.is_front.Goals as goal
-use Rattle.json.specs.Grammar.Json.{jstring}
+use Rattle.json_text.specs.Grammar.Json.{jstring}
 use Rattle.std.proofs.lemmas.Slice.Eq.{slice_eq-Decides}
 use Rattle.std.proofs.lemmas.Bool.Decides.{Decides-eqb}
 

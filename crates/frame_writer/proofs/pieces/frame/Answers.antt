@@ -7,7 +7,7 @@ use Rattle.frame_writer.proofs.pieces.frame.Goals as goal
 use Rattle.frame_writer.proofs.pieces.frame.Goals.{After-push-text-2}
 use Rattle.frame_writer.specs.Compact.{members, other_members}
 use Rattle.frame_writer.specs.Tree.{message_id, meter_value, payload_with}
-use Rattle.json.specs.Grammar.Membs.{no_memb}
+use Rattle.json_text.specs.Grammar.Membs.{no_memb}
 
 -- up to the payload
 opening : (c : After-push-text-2) → length (text_in c.push-text-2.new.self) ≡ 48

@@ -1,7 +1,0 @@
-use Rattle.std.proofs.Common.{◌≡◌, drop}
-use Rattle.json.specs.Parts.{skip}
-use Rattle.json.proofs.parts.skip_white.Given as goal
-
--- what is left still has all that is left after white space
-abbrev pub invariant-loop-i : goal.invariant-loop-i
-invariant-loop-i l = skip (drop l.i l.s) ≡ skip l.s

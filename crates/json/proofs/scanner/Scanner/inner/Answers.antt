@@ -1,6 +1,0 @@
-use Rattle.std.proofs.Common.{arith}
-use Rattle.json.proofs.Stacks.{top_stack}
-use Rattle.json.proofs.scanner.Scanner.inner.Goals as goal
-
-pub returns : goal.returns
-returns c = top_stack c.args.self.now.containers c.args.self.now.depth (omega arith)

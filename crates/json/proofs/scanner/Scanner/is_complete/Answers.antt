@@ -1,7 +1,0 @@
-use Rattle.std.proofs.Common.{◌&&◌, sym, ap₂}
-use Rattle.json.proofs.Stacks.{none_stacked}
-use Rattle.json.proofs.scanner.Scanner.is_complete.Goals as goal
-
-pub returns-then-ends-value : goal.returns-then-ends-value
-returns-then-ends-value c =
-    sym (ap₂ ◌&&◌ (sym c.if-ends-value.ensures) (none_stacked c.args.self.now.containers c.args.self.now.depth))

@@ -1,0 +1,153 @@
+// Whether bytes are JSON.
+ghost use Rattle.std.specs.Prelude.{◌≡◌, ◌≤◌, length, IfSome};
+ghost use Rattle.json_text.specs.Beginnings.{OneTree};
+ghost use Rattle.json_text.specs.Machine.{accepts, begin, ending, step};
+ghost use Rattle.json_text.specs.Machine.Mode.{chars};
+ghost use Rattle.json_text.specs.Scanning.{figure_mode, mode_of, opened_in, stack, top};
+ghost use Rattle.json_text.specs.Verdict.{Judged, Passes, Stepped, state_of};
+
+use crate::mode::{Container, Mode, Move, NumberPart, StringPart};
+use crate::quoted::{after_string, plain_length};
+use crate::scanner::{DEEPEST, Scanner};
+use crate::structure::next;
+use refusal::Refusal;
+
+impl Scanner {
+    fn new() -> Scanner
+        ensures start { state_of result ≡ begin }
+        ensures shallow { result.depth ≤ 8 }
+    {
+        Scanner {
+            mode: Mode::Value,
+            containers: [Container::Array; 8],
+            depth: 0,
+        }
+    }
+
+    // The innermost open container.
+    fn inner(&self) -> Option<Container>
+        requires { self.now.depth ≤ 8 }
+        ensures { top (stack self.now.containers self.now.depth) ≡ result }
+    {
+        if self.depth == 0 {
+            return None;
+        }
+        Some(self.containers[self.depth - 1])
+    }
+
+    // One container more is open.
+    fn push(&mut self, container: Container) -> Result<(), Refusal>
+        requires { self.old.depth ≤ 8 }
+        ensures pushed { Stepped (opened_in container (stack self.old.containers self.old.depth)) result (state_of self.new) }
+        ensures shallow { self.new.depth ≤ 8 }
+    {
+        if self.depth >= DEEPEST {
+            return Err(Refusal::TooDeep);
+        }
+        self.containers[self.depth] = container;
+        self.depth += 1;
+        self.mode = match container {
+            Container::Array => Mode::First,
+            Container::Object => Mode::Opened,
+        };
+        Ok(())
+    }
+
+    // One byte more.
+    fn step(&mut self, byte: u8) -> Result<(), Refusal>
+        requires { self.old.depth ≤ 8 }
+        ensures stepped { Stepped (step (state_of self.old) byte) result (state_of self.new) }
+        ensures shallow { self.new.depth ≤ 8 }
+    {
+        match next(self.mode, self.inner(), byte) {
+            Move::To(mode) => self.mode = mode,
+            Move::Open(container) => return self.push(container),
+            Move::Close => {
+                self.mode = Mode::After;
+                self.depth = self.depth.saturating_sub(1);
+            }
+            Move::Fail => return Err(Refusal::NotJson),
+        }
+        Ok(())
+    }
+}
+
+// A number may end here.
+fn ends_number(part: NumberPart) -> bool
+    ensures { result ≡ ending (figure_mode part) }
+{
+    match part {
+        NumberPart::Zero => true,
+        NumberPart::Whole => true,
+        NumberPart::Places => true,
+        NumberPart::Scale => true,
+        _ => false,
+    }
+}
+
+// A value may end here.
+fn ends_value(mode: Mode) -> bool
+    ensures { result ≡ ending (mode_of mode) }
+{
+    match mode {
+        Mode::After => true,
+        Mode::Figure(part) => ends_number(part),
+        _ => false,
+    }
+}
+
+impl Scanner {
+    // A text may end here.
+    fn is_complete(&self) -> bool
+        ensures { result ≡ accepts (state_of self.now) }
+    {
+        ends_value(self.mode) && self.depth == 0
+    }
+
+    // Whether the string in which the next byte stands, and belongs to no escape, is a member's name.
+    fn in_chars(&self) -> Option<bool>
+        ensures { IfSome result (λ name. mode_of self.now.mode ≡ chars name) }
+    {
+        match self.mode {
+            Mode::Text(StringPart::Chars, name) => Some(name),
+            _ => None,
+        }
+    }
+
+    // Passes the bytes of a string that stand for themselves, and its closing quote where that follows; tells how many.
+    fn pass_plain(&mut self, rest: &[u8]) -> usize
+        requires { self.old.depth ≤ 8 }
+        ensures bound { result ≤ length rest.now }
+        ensures passed { Passes (state_of self.old) result rest.now (state_of self.new) }
+        ensures shallow { self.new.depth ≤ 8 }
+    {
+        let Some(name) = self.in_chars() else {
+            return 0;
+        };
+        let length = plain_length(rest);
+        if length < rest.len() && rest[length] == b'"' {
+            self.mode = after_string(name);
+            return length + 1;
+        }
+        length
+    }
+}
+
+// Whether the bytes are a JSON text: 52 where they are nested too deep, 53 where they are none, whichever shows first from the left.
+pub fn check(text: &[u8]) -> Result<(), Refusal>
+    ensures judged { Judged text.now result }
+    ensures one_tree { OneTree text.now }
+{
+    let mut scanner = Scanner::new();
+    let mut i = 0;
+    while i < text.len() {
+        scanner.step(text[i])?;
+        i += 1;
+        i += scanner.pass_plain(&text[i..]);
+    }
+    if scanner.is_complete() {
+        Ok(())
+    } else {
+        Err(Refusal::NotJson)
+    }
+}
