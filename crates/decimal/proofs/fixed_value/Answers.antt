@@ -4,5 +4,5 @@ use Rattle.decimal.proofs.fixed_value.Goals as goal
 
 pub returns : goal.returns
 returns c =
-    text_cases c.args.digits.now c.capped-value.result (omega (arith, false-eqb _ 0 c.if-is-empty.ensures))
-    (omega arith) c.capped-value.ensures
+    text_cases c.args.digits.now c.capped_value.result (omega (arith, false-eqb _ 0 c.if-is_empty.ensures))
+    (omega arith) c.capped_value.ensures
