@@ -8,8 +8,8 @@ use Rattle.split.proofs.cut.Goals as goal
 pub returns-then-place-text : goal.returns-then-place-text
 returns-then-place-text c =
     let text = c.args.text.now in
-    let i = c.separator-place-place.result in
-    let found = c.separator-place-place.ensures in
+    let i = c.separator_place-place.result in
+    let found = c.separator_place-place.ensures in
     let lt = c.if-place-text.true in
     let here = found.here lt in
     let free = found.before in
@@ -27,7 +27,7 @@ returns-then-place-text c =
 pub returns-else-place-text : goal.returns-else-place-text
 returns-else-place-text c =
     let text = c.args.text.now in
-    let free : Free c.args.separator text (length text) = λ k h. c.separator-place-place.ensures.before k (omega arith) in
+    let free : Free c.args.separator text (length text) = λ k h. c.separator_place-place.ensures.before k (omega arith) in
     record {
       front = sym (before_none _ text free);
       back = sym (after_none _ text free);

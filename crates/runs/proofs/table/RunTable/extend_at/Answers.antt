@@ -4,10 +4,10 @@ use Rattle.runs.proofs.Tables.{joined_table, some_run, widened_table}
 use Rattle.runs.specs.Stretches.{Stretches, covers, with_number}
 use Rattle.runs.specs.declared.table.RunTable.{RunTable}
 use Rattle.runs.proofs.table.RunTable.extend_at.Goals as goal
-use Rattle.runs.proofs.table.RunTable.extend_at.Goals.{After-rotate-left, After-widen, else-next-end-via-then-next-end+else-not-begins-after, else-next-end-via-else-next-end}
+use Rattle.runs.proofs.table.RunTable.extend_at.Goals.{After-rotate_left, After-widen, else-next-end-via-then-next-end+else-not-begins_after, else-next-end-via-else-next-end}
 
-pub offset-bounds-self-place : goal.offset-bounds-self-place
-offset-bounds-self-place c = omega (arith, c.requires.inside, length-take c.args.self.now.count c.args.self.now.runs)
+pub offset_bounds-self-place : goal.offset_bounds-self-place
+offset_bounds-self-place c = omega (arith, c.requires.inside, length-take c.args.self.now.count c.args.self.now.runs)
 
 -- the next run stays apart
 widened : (c : After-widen) → (c.args.place + 1 < c.args.self.now.count → leb (suc (suc (get_or (set c.args.self.now.runs c.args.place c.widen.new.self) c.args.place some_run).last)) (get_or (set c.args.self.now.runs c.args.place c.widen.new.self) (c.args.place + 1) some_run).first ≡ true) → Stretches (with_number (covers (take c.args.self.now.count c.args.self.now.runs)) c.args.number) (take c.args.self.now.count (set c.args.self.now.runs c.args.place c.widen.new.self))
@@ -16,29 +16,29 @@ widened c apart =
     (omega arith) c.requires c.widen.new.self c.widen.ensures apart
 
 -- the next run is taken in too
-joined : (c : After-rotate-left) → Stretches (with_number (covers (take c.args.self.now.count c.args.self.now.runs)) c.args.number) (take (c.args.self.now.count - 1) (put_mid (c.args.place + 1) (c.args.self.now.count - (c.args.place + 1)) (set (set c.args.self.now.runs c.args.place c.widen.new.self) c.args.place c.join.new.self) c.rotate-left.new.self))
+joined : (c : After-rotate_left) → Stretches (with_number (covers (take c.args.self.now.count c.args.self.now.runs)) c.args.number) (take (c.args.self.now.count - 1) (put_mid (c.args.place + 1) (c.args.self.now.count - (c.args.place + 1)) (set (set c.args.self.now.runs c.args.place c.widen.new.self) c.args.place c.join.new.self) c.rotate_left.new.self))
 joined c =
     joined_table c.args.self.now.runs c.args.self.now.count c.args.place c.args.number c.args.self.now.rising
-    (omega arith) c.requires c.widen.new.self c.widen.ensures c.rotate-left.new.self c.join.new.self c.if-next-end.true
-    (sym c.begins-after.ensures ∙ c.if-not-begins-after.true) c.join.ensures c.rotate-left.ensures.len c.rotate-left.ensures.by_index.0
+    (omega arith) c.requires c.widen.new.self c.widen.ensures c.rotate_left.new.self c.join.new.self c.if-next-end.true
+    (sym c.begins_after.ensures ∙ c.if-not-begins_after.true) c.join.ensures c.rotate_left.ensures.len c.rotate_left.ensures.by_index.0
 
-pub invariant-of-self : goal.invariant-of-self
-invariant-of-self c = ((omega arith, same_len_mid _ _ _ _ c.rotate-left.ensures.len ∙ length-set (set c.args.self.now.runs c.args.place c.widen.new.self) c.args.place c.join.new.self ∙ length-set c.args.self.now.runs c.args.place c.widen.new.self ∙ c.args.self.now.fits.1), ((joined c).rising, tt))
+pub invariant_of-self : goal.invariant_of-self
+invariant_of-self c = record { fits = (omega arith, same_len_mid _ _ _ _ c.rotate_left.ensures.len ∙ length-set (set c.args.self.now.runs c.args.place c.widen.new.self) c.args.place c.join.new.self ∙ length-set c.args.self.now.runs c.args.place c.widen.new.self ∙ c.args.self.now.fits.1); rising = (joined c).rising }
 
-pub invariant-of-self-else-not-begins-after : goal.invariant-of-self-else-not-begins-after
-invariant-of-self-else-not-begins-after c = ((omega arith, simp length-set c.args.self.now.fits.1), ((widened (goal.at.invariant-of-self-else-not-begins-after c).After-widen (λ _. sym c.begins-after.ensures ∙ c.if-not-begins-after.false)).rising, tt))
+pub invariant_of-self-else-not-begins_after : goal.invariant_of-self-else-not-begins_after
+invariant_of-self-else-not-begins_after c = record { fits = (omega arith, simp length-set c.args.self.now.fits.1); rising = (widened (goal.at.invariant_of-self-else-not-begins_after c).After-widen (λ _. sym c.begins_after.ensures ∙ c.if-not-begins_after.false)).rising }
 
-pub invariant-of-self-else-next-end : goal.invariant-of-self-else-next-end
-invariant-of-self-else-next-end c = ((omega arith, simp length-set c.args.self.now.fits.1), ((widened (goal.at.invariant-of-self-else-next-end c).After-widen (λ h. absurd (omega arith))).rising, tt))
+pub invariant_of-self-else-next-end : goal.invariant_of-self-else-next-end
+invariant_of-self-else-next-end c = record { fits = (omega arith, simp length-set c.args.self.now.fits.1); rising = (widened (goal.at.invariant_of-self-else-next-end c).After-widen (λ h. absurd (omega arith))).rising }
 
-pub returns-then-not-begins-after : goal.returns-then-not-begins-after
-returns-then-not-begins-after c = joined (goal.at.returns-then-not-begins-after c).After-rotate-left
+pub returns-then-not-begins_after : goal.returns-then-not-begins_after
+returns-then-not-begins_after c = joined (goal.at.returns-then-not-begins_after c).After-rotate_left
 
 pub returns-else-next-end : goal.returns-else-next-end
 returns-else-next-end c =
     let at = (goal.at.returns-else-next-end c).After-widen in
     let P : RunTable → Type 0 = λ t. Stretches (with_number (covers (take c.args.self.now.count c.args.self.now.runs)) c.args.number) (take t.count t.runs) in
     elim c.else-next-end.branch [
-      | else-next-end-via-then-next-end+else-not-begins-after w ↦ subst P (sym w.self-is) (widened at (λ _. sym w.begins-after.ensures ∙ w.if-not-begins-after.false))
+      | else-next-end-via-then-next-end+else-not-begins_after w ↦ subst P (sym w.self-is) (widened at (λ _. sym w.begins_after.ensures ∙ w.if-not-begins_after.false))
       | else-next-end-via-else-next-end w ↦ subst P (sym w.self-is) (widened at (λ h. absurd (omega (arith, w.if-next-end.false))))
     ]

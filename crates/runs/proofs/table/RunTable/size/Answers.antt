@@ -6,8 +6,8 @@ use Rattle.runs.proofs.table.RunTable.size.Goals as goal
 pub size-numbers-requires : goal.size-numbers-requires
 size-numbers-requires c = in_order _ _ (omega arith) c.args.self.now.rising _ c.loop-i-test.true
 
-pub overflow-add-numbers : goal.overflow-add-numbers
-overflow-add-numbers c = omega arith
+pub overflow_add-numbers : goal.overflow_add-numbers
+overflow_add-numbers c = omega arith
 
 pub loop-i-preserved : goal.loop-i-preserved
 loop-i-preserved c = (omega (arith, more_total c.args.self.now.runs c.args.self.now.count (omega arith) c.args.self.now.rising c.loop-i.i c.loop-i-test.true), omega arith)
