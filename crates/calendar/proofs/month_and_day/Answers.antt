@@ -6,7 +6,7 @@ use Rattle.calendar.proofs.month_and_day.Goals.{Else-rest-length}
 -- the month that the loop has passed was not the last
 not_last : (c : Else-rest-length) → c.loop-rest.month < 12
 not_last c =
-    later_month c.args.year c.loop-rest.month c.args.day-of-year (omega arith) (omega arith) (omega arith)
+    later_month c.args.year c.loop-rest.month c.args.day_of_year (omega arith) (omega arith) (omega arith)
     (omega arith)
 
 pub loop-rest-init : goal.loop-rest-init

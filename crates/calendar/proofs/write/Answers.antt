@@ -3,8 +3,8 @@ use Rattle.calendar.specs.Calendar.{Denotes}
 use Rattle.calendar.proofs.Denoted.{reads_back, no_text}
 use Rattle.calendar.proofs.write.Goals as goal
 
-pub returns-then-second-gt-LAST-SECOND : goal.returns-then-second-gt-LAST-SECOND
-returns-then-second-gt-LAST-SECOND c = record { denotes = (refl, omega arith, no_text c.args.second (omega arith)); reads_back = tt }
+pub returns-then-second-gt-LAST_SECOND : goal.returns-then-second-gt-LAST_SECOND
+returns-then-second-gt-LAST_SECOND c = record { denotes = (refl, omega arith, no_text c.args.second (omega arith)); reads_back = tt }
 
 pub returns : goal.returns
 returns c =

@@ -4,7 +4,7 @@ use Rattle.json_text.proofs.Plains.{front_passed}
 use Rattle.json_text.proofs.quoted.string_length.Goals as goal
 
 pub loop-i-init : goal.loop-i-init
-loop-i-init c = front_passed c.args.s.now c.plain-length-i.result c.plain-length-i.ensures.bound c.plain-length-i.ensures.plain
+loop-i-init c = front_passed c.args.s.now c.plain_length-i.result c.plain_length-i.ensures.bound c.plain_length-i.ensures.plain
 
 pub returns-in-34 : goal.returns-in-34
 returns-in-34 c =

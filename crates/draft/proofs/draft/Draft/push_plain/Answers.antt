@@ -6,6 +6,6 @@ use Rattle.draft.specs.Growing.{Grows, text_in}
 
 pub returns : goal.returns
 returns c =
-    subst (λ l. Grows (text_in c.args.self.now) l (text_in c.push-fixed.new.self))
-    (ap (λ w. fixed w c.args.number) c.plain-width.ensures ∙ plain_fixed c.args.number (omega arith))
-    c.push-fixed.ensures
+    subst (λ l. Grows (text_in c.args.self.now) l (text_in c.push_fixed.new.self))
+    (ap (λ w. fixed w c.args.number) c.plain_width.ensures ∙ plain_fixed c.args.number (omega arith))
+    c.push_fixed.ensures

@@ -11,7 +11,7 @@ returns-in-Close c =
     let d = c.args.self.now.depth in
     record {
       stepped =
-          ap (λ n. live after (stack xs n)) c.saturating-sub-self.ensures
+          ap (λ n. live after (stack xs n)) c.saturating_sub-self.ensures
           ∙ ap (live after) (stack_pop xs d)
           ∙ c.in-Close.ensures (stack xs d) c.inner.ensures;
       shallow = omega arith;

@@ -20,15 +20,15 @@ returns-then-free-times g c =
       rule = (inr away, refl);
     }
 
-pub returns-in-err-send : goal.returns-in-err-send
-returns-in-err-send g c =
+pub returns-in_err-send : goal.returns-in_err-send
+returns-in_err-send g c =
     let repeater = c.args.self.now in
     let times = times_for repeater.n in
     let some : 1 ≤ times = omega arith in
     let loop = c.loop-copy in
-    let fault = c.in-err-send.field-0.0 in
+    let fault = c.in_err-send.field-0.0 in
     let sent : Sent g.C.Channel loop.self.below c.args.item (Err fault) c.send.new.self =
-    subst (λ r. Sent g.C.Channel loop.self.below c.args.item r c.send.new.self) c.in-err-send.was
+    subst (λ r. Sent g.C.Channel loop.self.below c.args.item r c.send.new.self) c.in_err-send.was
     (record { law = c.send.ensures.law; rule = c.send.ensures.rule }) in
     let open-or-not : (free_of g.C.Channel repeater.below ≡ 0) ⊎ (times ≤ free_of g.C.Channel repeater.below) =
     elim c.else-free-gt0.branch [
@@ -37,8 +37,8 @@ returns-in-err-send g c =
     ] in
     let closed : ClosedBelow g.C.Channel times repeater.below c.args.item fault c.send.new.self =
     first_refused g.C.Channel times some loop.-copy repeater.below loop.self.below c.send.new.self c.args.item fault (omega arith) open-or-not loop.invariant.0 sent in
-    let back = err_from_is_err_and c.from-residual.result c.from-residual.ensures.1 in
-    let returned : c.from-residual.result ≡ Err fault = back.1 ∙ ap Err back.2 in
+    let back = err_from_is_err_and c.from_residual.result c.from_residual.ensures.1 in
+    let returned : c.from_residual.result ≡ Err fault = back.1 ∙ ap Err back.2 in
     let law = send_law g.C.Channel times some repeater.below c.args.item (Err fault) c.send.new.self (inl closed) in
     record {
       law = subst (λ r. Sends (repeater_meaning g.C.Channel times repeater.below) c.args.item r (repeater_meaning g.C.Channel (times_for loop.self.n) c.send.new.self)) (sym returned)
@@ -52,7 +52,7 @@ loop-copy-preserved g c =
     let some : 1 ≤ times = omega arith in
     let loop = c.loop-copy in
     let sent : Sent g.C.Channel loop.self.below c.args.item (Ok tt) c.send.new.self =
-    subst (λ r. Sent g.C.Channel loop.self.below c.args.item r c.send.new.self) c.in-ok-send.was
+    subst (λ r. Sent g.C.Channel loop.self.below c.args.item r c.send.new.self) c.in_ok-send.was
     (record { law = c.send.ensures.law; rule = c.send.ensures.rule }) in
     (one_more g.C.Channel times some loop.-copy c.args.self.now.below loop.self.below c.send.new.self c.args.item loop.invariant.0 sent, loop.invariant.1)
 

@@ -6,12 +6,12 @@ use Rattle.layers.proofs.spool.SpoolChannel.receive.Goals as goal
 pub returns : goal.returns
 returns g c =
     let before = c.args.self.now in
-    let passing = c.pass-down.new.self in
+    let passing = c.pass_down.new.self in
     let rule : SpoolReceives g.C.Channel (spooled before) c.receive.result (laid c.receive.new.self passing.count passing.places) =
     record {
       passing = spooled passing;
-      passes = c.pass-down.ensures.passes;
+      passes = c.pass_down.ensures.passes;
       got = record { law = c.receive.ensures.law; rule = c.receive.ensures.rule };
       same = refl;
     } in
-    record { law = receive_law g.C.Channel _ c.receive.result _ c.pass-down.ensures.fits rule; rule = rule }
+    record { law = receive_law g.C.Channel _ c.receive.result _ c.pass_down.ensures.fits rule; rule = rule }
