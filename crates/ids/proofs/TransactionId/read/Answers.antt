@@ -15,8 +15,8 @@ unlike text none = inl (refl, λ s n w. none s n (parts text s n w))
 pub returns-in_default : goal.returns-in_default
 returns-in_default c = unlike c.args.text.now (λ s n p. omega (arith, ltb-true, p.long))
 
-pub returns-in-default·2 : goal.returns-in-default·2
-returns-in-default·2 c = unlike c.args.text.now (λ s n p. omega (arith, p.hyphen))
+pub returns-in_default-2 : goal.returns-in_default-2
+returns-in_default-2 c = unlike c.args.text.now (λ s n p. omega (arith, p.hyphen))
 
 pub returns-then-session-ne8 : goal.returns-then-session-ne8
 returns-then-session-ne8 c =

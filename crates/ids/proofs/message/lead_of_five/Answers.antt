@@ -2,7 +2,7 @@ use Rattle.std.proofs.Common.{sym, subst, arith, ltb-false, ltb-true}
 use Rattle.ids.specs.Ids.{Leads}
 use Rattle.ids.proofs.Leads.{leads, placed}
 use Rattle.ids.proofs.message.lead_of_five.Goals as goal
-use Rattle.ids.proofs.message.lead_of_five.Goals.{in_default-via-then-text-lt6, in_default-via-else-text-lt6+in-default·}
+use Rattle.ids.proofs.message.lead_of_five.Goals.{in_default-via-then-text-lt6, in_default-via-else-text-lt6+in_default-1}
 use Rattle.std.proofs.lemmas.List.{take_rest}
 
 pub returns-in_default : goal.returns-in_default
@@ -10,7 +10,7 @@ returns-in_default c = λ n rest l.
     let p = placed 5 _ n rest (omega arith) (omega arith) l in
     elim c.in_default.branch [
       | in_default-via-then-text-lt6 w ↦ omega (arith, ltb-true, p.long)
-      | in_default-via-else-text-lt6+in-default· w ↦ omega (arith, p.hyphen)
+      | in_default-via-else-text-lt6+in_default-1 w ↦ omega (arith, p.hyphen)
     ]
 
 pub returns-in_err-number : goal.returns-in_err-number

@@ -21,7 +21,7 @@ returns-then-width-start c =
 pub invariant_of-self : goal.invariant_of-self
 invariant_of-self c =
     let self = c.args.self.now in
-    ((omega arith, put_length self.bytes self.len c.args.width c.write_fixed.new.out (omega arith) (long c) ∙ self.fits.1), tt)
+    record { fits = (omega arith, put_length self.bytes self.len c.args.width c.write_fixed.new.out (omega arith) (long c) ∙ self.fits.1) }
 
 pub returns : goal.returns
 returns c =

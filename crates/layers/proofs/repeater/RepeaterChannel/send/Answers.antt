@@ -36,7 +36,7 @@ returns-in_err-send g c =
       | else-free-gt0-via-else-free-gt0 w ↦ inl (omega arith)
     ] in
     let closed : ClosedBelow g.C.Channel times repeater.below c.args.item fault c.send.new.self =
-    first_refused g.C.Channel times some loop.-copy repeater.below loop.self.below c.send.new.self c.args.item fault (omega arith) open-or-not loop.invariant.0 sent in
+    first_refused g.C.Channel times some loop._copy repeater.below loop.self.below c.send.new.self c.args.item fault (omega arith) open-or-not loop.invariant.0 sent in
     let back = err_from_is_err_and c.from_residual.result c.from_residual.ensures.1 in
     let returned : c.from_residual.result ≡ Err fault = back.1 ∙ ap Err back.2 in
     let law = send_law g.C.Channel times some repeater.below c.args.item (Err fault) c.send.new.self (inl closed) in
@@ -54,7 +54,7 @@ loop-copy-preserved g c =
     let sent : Sent g.C.Channel loop.self.below c.args.item (Ok tt) c.send.new.self =
     subst (λ r. Sent g.C.Channel loop.self.below c.args.item r c.send.new.self) c.in_ok-send.was
     (record { law = c.send.ensures.law; rule = c.send.ensures.rule }) in
-    (one_more g.C.Channel times some loop.-copy c.args.self.now.below loop.self.below c.send.new.self c.args.item loop.invariant.0 sent, loop.invariant.1)
+    (one_more g.C.Channel times some loop._copy c.args.self.now.below loop.self.below c.send.new.self c.args.item loop.invariant.0 sent, loop.invariant.1)
 
 pub returns : goal.returns
 returns g c =
@@ -64,7 +64,7 @@ returns g c =
     let loop = c.loop-copy in
     let b' = loop.self.below in
     let down : Took g.C.Channel repeater.below (replicate times c.args.item) b' =
-    subst (λ n. Took g.C.Channel repeater.below (replicate n c.args.item) b') {x = loop.-copy} {y = times} (omega arith) loop.invariant.0 in
+    subst (λ n. Took g.C.Channel repeater.below (replicate n c.args.item) b') {x = loop._copy} {y = times} (omega arith) loop.invariant.0 in
     let open-or-not : (free_of g.C.Channel repeater.below ≡ 0) ⊎ (times ≤ free_of g.C.Channel repeater.below) =
     elim c.else-free-gt0.branch [
       | else-free-gt0-via-then-free-gt0+else-free-times w ↦ inr (omega arith)
