@@ -2,7 +2,7 @@
 use Rattle.std.proofs.Common.{◌≡◌, ℕ, ◌<◌, ◌≤◌, Bool, true, false, not, ◌&&◌, ltb, leb, List, [], ◌∷◌, ◌++◌, map, length, Some, None, Ok, Err, codes, refl, arith, lit<}
 use Rattle.std.proofs.lemmas.Bool.{and_parts, leb-true, ltb-true, not-true}
 use Rattle.std.specs.Fmt.{digits}
-use Rattle.std.specs.List.{AllByRecursion as All}
+use Rattle.std.specs.List.{AllByRecursion}
 use Rattle.statement.specs.Statement.{statement_bytes}
 use Rattle.decimal.specs.Decimal.{fixed}
 use Rattle.event.specs.Lawful.{Lawful}
@@ -69,7 +69,7 @@ abbrev all_pass : List Event → List Event → Bool
 all_pass before [] = true
 all_pass before (e ∷ events) = passes before e && all_pass (before ++ e ∷ []) events
 
-all_held : (before events : List Event) → All Lawful events → all_pass before events ≡ true → AllHeld before events
+all_held : (before events : List Event) → AllByRecursion Lawful events → all_pass before events ≡ true → AllHeld before events
 all_held before [] l h = tt
 all_held before (e ∷ events) l h =
     let parts = and_parts (passes before e) _ h in
@@ -83,7 +83,7 @@ in_range (n ∷ ns) = (ltb 0 n && leb n 9999) && in_range ns
 lawful_number : (n : ℕ) → (ltb 0 n && leb n 9999) ≡ true → Lawful (update n)
 lawful_number n h = let parts = and_parts (ltb 0 n) _ h in lawful_update 17 3 n (omega arith) (omega arith) (omega arith) (ltb-true _ _ parts.0) (leb-true _ _ parts.1)
 
-lawful_updates : (ns : List ℕ) → in_range ns ≡ true → All Lawful (map update ns)
+lawful_updates : (ns : List ℕ) → in_range ns ≡ true → AllByRecursion Lawful (map update ns)
 lawful_updates [] h = tt
 lawful_updates (n ∷ ns) h = let parts = and_parts (ltb 0 n && leb n 9999) _ h in (lawful_number n parts.0, lawful_updates ns parts.1)
 

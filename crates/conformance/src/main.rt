@@ -31,7 +31,7 @@ fn run(rt: &HostRuntime) -> anyhow::Result<()> {
     match words.as_slice() {
         [] => judge_table(rt),
         [word] if word.as_str() == "--help" => {
-            print!(rt, "{HELP}")?;
+            print!(rt; "{HELP}")?;
             Ok(())
         }
         _ => Err(anyhow!("what to do? `conformance --help` says what to type")),

@@ -61,7 +61,7 @@ fn run(rt: &HostRuntime) -> anyhow::Result<()> {
         [command, price] if command.as_str() == "sheet" => bill_sheet(rt, price.as_str()),
         [command] if command.as_str() == "frames" => show_frames(rt),
         [command] if command.as_str() == "--help" => {
-            print!(rt, "{HELP}")?;
+            print!(rt; "{HELP}")?;
             Ok(())
         }
         _ => Err(anyhow!("what to do? `desk --help` says what to type")),

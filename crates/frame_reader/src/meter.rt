@@ -89,7 +89,7 @@ fn take_sampled<'a>(
     ensures through { (end : List ℕ) (ms left : Membs) (t : Taken left called.now value.now end) → SoFar SampledFinds found.old (codes "sampledValue") ms left → SoFar SampledFinds found.new (codes "sampledValue") ms t.others × (result.now ≡ t.behind) }
     ensures bound { length result.now ≤ length value.now }
 {
-    if called == b"\"sampledValue\"" {
+    if called == b"\"sampledValue\"".as_slice() {
         let (sampled, behind) = find_sampled(value);
         *found = found.add(sampled);
         behind

@@ -15,7 +15,7 @@ pub fn is_string(value: &[u8], word: &[u8]) -> bool
 pub fn is_two(value: &[u8]) -> bool
     ensures { (tree : Json) → Value tree value.now → Decides result (tree ≡ jnumber (codes "2")) }
 {
-    value == b"2"
+    value == b"2".as_slice()
 }
 
 // The bytes of a string between its quotes.

@@ -44,9 +44,9 @@ pub fn trigger_reason(value: &[u8]) -> Option<TriggerReason>
 pub fn truth(value: &[u8]) -> Option<bool>
     ensures { (tree : Json) → Value tree value.now → MatchOption result ((b : Bool) → tree ≢ flag b) (λ b. tree ≡ flag b) }
 {
-    if value == b"true" {
+    if value == b"true".as_slice() {
         Some(true)
-    } else if value == b"false" {
+    } else if value == b"false".as_slice() {
         Some(false)
     } else {
         None

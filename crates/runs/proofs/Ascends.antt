@@ -1,7 +1,7 @@
 -- Rising runs, and the numbers that lie in them. Assumes nothing.
 use Rattle.std.proofs.Common.{◌≡◌, ℕ, zero, suc, ◌+◌, ◌<◌, ◌≤◌, Bool, true, false, ◌&&◌, ◌||◌, eqb, ltb, leb, ◌⊎◌, List, [], ◌∷◌, ◌++◌, sym, refl, ap, ◌∙◌, subst, inl, inr, ⊎_elim, arith}
 use Rattle.std.proofs.lemmas.Bool.{and_parts, and_from, and_left, and_right, or_cases, or_from, or_left, or_right, or_parts, le-leb, lt-leb, leb-true, leb-false, cases_Bool, both_ways, cases_lt}
-use Rattle.std.specs.List.{AllByRecursion as All}
+use Rattle.std.specs.List.{AllByRecursion}
 use Rattle.runs.specs.Stretches.{within, covers, ascending, Maximal, Stretches}
 use Rattle.runs.specs.declared.run.Run.{Run}
 
@@ -59,7 +59,7 @@ covers_below low n (r ∷ rs) g h =
     or_from _ _ (within_before n r (omega arith)) (covers_below (r.last + 2) n rs g.2 (omega arith))
 
 -- the runs are maximal stretches of what passes from `low` on
-maximal_from : (passes : ℕ → Bool) (low : ℕ) (rs : List Run) → Rising low rs → ((n : ℕ) → low ≤ suc n → covers rs n ≡ passes n) → All (Maximal passes) rs
+maximal_from : (passes : ℕ → Bool) (low : ℕ) (rs : List Run) → Rising low rs → ((n : ℕ) → low ≤ suc n → covers rs n ≡ passes n) → AllByRecursion (Maximal passes) rs
 maximal_from passes low [] g same = tt
 maximal_from passes low (r ∷ rs) g same = (
   record {
@@ -80,7 +80,7 @@ stretches_exact passes rs g same =
       complete = λ n h. same n ∙ h;
     }
 
-inside_one : (passes : ℕ → Bool) (rs : List Run) (n : ℕ) → All (Maximal passes) rs → covers rs n ≡ true → passes n ≡ true
+inside_one : (passes : ℕ → Bool) (rs : List Run) (n : ℕ) → AllByRecursion (Maximal passes) rs → covers rs n ≡ true → passes n ≡ true
 inside_one passes [] n m h = absurd (both_ways _ refl h)
 inside_one passes (r ∷ rs) n m h =
     ⊎_elim

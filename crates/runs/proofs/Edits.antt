@@ -2,7 +2,7 @@
 use Rattle.std.proofs.Common.{◌≡◌, ℕ, suc, ◌+◌, ◌<◌, ◌≤◌, min, max, Bool, true, false, ◌&&◌, ◌||◌, eqb, leb, List, [], ◌∷◌, ◌++◌, sym, refl, ap, ◌∙◌, arith}
 use Rattle.std.proofs.lemmas.Bool.{le-leb, lt-leb, eq-eqb, ne_eqb}
 use Rattle.std.proofs.lemmas.Bool.Decides.{nat_tests}
-use Rattle.std.specs.List.{AllByRecursion as All}
+use Rattle.std.specs.List.{AllByRecursion}
 use Rattle.runs.specs.Stretches.{within, covers, with_number, Stretches}
 use Rattle.runs.specs.declared.run.Run.{Run}
 use Rattle.runs.proofs.Ascends.{Rising, rising_weaker, stretches_exact}
@@ -23,13 +23,13 @@ or_swap false false true = refl
 or_swap false false false = refl
 
 -- a change behind runs that end before n is a change of the whole
-edit_from : (pre xs ys : List Run) (n low : ℕ) → low ≤ n → All (λ r. r.last + 2 ≤ n) pre → Rising low (pre ++ xs) → ((l : ℕ) → l ≤ n → Rising l xs → With n l xs ys) → With n low (pre ++ xs) (pre ++ ys)
+edit_from : (pre xs ys : List Run) (n low : ℕ) → low ≤ n → AllByRecursion (λ r. r.last + 2 ≤ n) pre → Rising low (pre ++ xs) → ((l : ℕ) → l ≤ n → Rising l xs → With n l xs ys) → With n low (pre ++ xs) (pre ++ ys)
 edit_from [] xs ys n low h a g change = change low h g
 edit_from (p ∷ pre) xs ys n low h a g change =
     let rest = edit_from pre xs ys n (p.last + 2) a.0 a.1 g.2 change in
     ((g.0, g.1, rest.0), λ m. ap (λ b. within m p || b) (rest.1 m) ∙ or_last (within m p) (covers (pre ++ xs) m) (eqb m n))
 
-pub edit : (pre xs ys : List Run) (n : ℕ) → All (λ r. r.last + 2 ≤ n) pre → Rising 0 (pre ++ xs) → ((l : ℕ) → l ≤ n → Rising l xs → With n l xs ys) → Stretches (with_number (covers (pre ++ xs)) n) (pre ++ ys)
+pub edit : (pre xs ys : List Run) (n : ℕ) → AllByRecursion (λ r. r.last + 2 ≤ n) pre → Rising 0 (pre ++ xs) → ((l : ℕ) → l ≤ n → Rising l xs → With n l xs ys) → Stretches (with_number (covers (pre ++ xs)) n) (pre ++ ys)
 edit pre xs ys n a g change =
     let whole = edit_from pre xs ys n 0 (omega arith) a g change in
     stretches_exact (with_number (covers (pre ++ xs)) n) (pre ++ ys) whole.0 whole.1

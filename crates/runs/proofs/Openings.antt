@@ -1,6 +1,6 @@
 -- The three changes of a table, at the place of a number. Assumes nothing.
 use Rattle.std.proofs.Common.{◌≡◌, ℕ, zero, suc, ◌+◌, ◌<◌, ◌≤◌, max, true, List, [], ◌∷◌, ◌++◌, length, get_or, take, drop, sym, refl, ap, ◌∙◌, subst, le_of_suc-le-suc, arith, take-append-drop, drop-cons}
-use Rattle.std.specs.List.{AllByRecursion as All}
+use Rattle.std.specs.List.{AllByRecursion}
 use Rattle.std.proofs.lemmas.List.{drop_all, drop_more, length-drop, get_or-drop}
 use Rattle.runs.specs.Places.{Clear, Touches, Between}
 use Rattle.runs.specs.Stretches.{within, covers, ascending, with_number, Stretches}

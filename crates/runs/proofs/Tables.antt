@@ -15,7 +15,7 @@ use Rattle.runs.specs.Gaps.{GapBefore, between, edge, gap, highest}
 use Rattle.std.specs.Option.{option_to_list}
 use Rattle.runs.specs.Stretches.{Counts, Stretches, ascending, covers, most_runs, with_number}
 use Rattle.runs.specs.declared.run.Run.{Run}
-use Rattle.std.specs.List.{AllByRecursion as All}
+use Rattle.std.specs.List.{AllByRecursion}
 
 -- any run, for reading a list within its length
 abbrev pub some_run : Run
@@ -78,18 +78,18 @@ module _ (mem : List Run) (c n : ℕ) (fits : c ≤ length mem) where
   at_place : (p : ℕ) (d : Run) → p < c → get_or (take c mem) p d ≡ get_or mem p some_run
   at_place p d h = get_or-take c mem p d h ∙ get_or_default mem p d some_run (omega arith)
 
-  pub place_found : (p : ℕ) → p < c → All (λ r. r.last + 2 ≤ n) (take p (take c mem)) → leb (suc (suc (get_or mem p some_run).last)) n ≡ false → Place (take c mem) n p
+  pub place_found : (p : ℕ) → p < c → AllByRecursion (λ r. r.last + 2 ≤ n) (take p (take c mem)) → leb (suc (suc (get_or mem p some_run).last)) n ≡ false → Place (take c mem) n p
   place_found p h before here =
       record { clear = (omega (arith, used), before); here = λ d _. subst (λ r. n ≤ suc r.last) (sym (at_place p d h)) (omega (arith, leb-false _ _ here)) }
 
-  pub place_more : (p : ℕ) → p < c → All (λ r. r.last + 2 ≤ n) (take p (take c mem)) → leb (suc (suc (get_or mem p some_run).last)) n ≡ true → All (λ r. r.last + 2 ≤ n) (take (p + 1) (take c mem))
+  pub place_more : (p : ℕ) → p < c → AllByRecursion (λ r. r.last + 2 ≤ n) (take p (take c mem)) → leb (suc (suc (get_or mem p some_run).last)) n ≡ true → AllByRecursion (λ r. r.last + 2 ≤ n) (take (p + 1) (take c mem))
   place_more p h before here =
       All-more (λ r. r.last + 2 ≤ n) (take c mem) p some_run (omega (arith, used)) before (subst (λ r. r.last + 2 ≤ n) (sym (at_place p some_run h)) (omega (arith, leb-true _ _ here)))
 
-  pub place_last : (p : ℕ) → c ≤ p → All (λ r. r.last + 2 ≤ n) (take p (take c mem)) → Place (take c mem) n c
+  pub place_last : (p : ℕ) → c ≤ p → AllByRecursion (λ r. r.last + 2 ≤ n) (take p (take c mem)) → Place (take c mem) n c
   place_last p h before =
       record {
-        clear = (omega (arith, used), subst (All (λ r. r.last + 2 ≤ n)) (take_all p (take c mem) (omega (arith, used)) ∙ sym (take_all c (take c mem) (omega (arith, used)))) before);
+        clear = (omega (arith, used), subst (AllByRecursion (λ r. r.last + 2 ≤ n)) (take_all p (take c mem) (omega (arith, used)) ∙ sym (take_all c (take c mem) (omega (arith, used)))) before);
         here = λ d l. absurd (omega (arith, used));
       }
 

@@ -1,12 +1,12 @@
 -- Where a number goes among runs. Assumes nothing.
 use Rattle.std.specs.Prelude.{ℕ, suc, ◌+◌, ◌<◌, ◌≤◌, List, length, take, slice_index_or}
 use Rattle.runs.specs.declared.run.Run.{Run}
-use Rattle.std.specs.List.{AllByRecursion as All}
+use Rattle.std.specs.List.{AllByRecursion}
 
 module _ (runs : List Run) (n place : ℕ) where
   -- each run before the place ends before the number, with another number between
   abbrev pub Clear : Type 0
-  Clear = (place ≤ length runs) × All (λ r. r.last + 2 ≤ n) (take place runs)
+  Clear = (place ≤ length runs) × AllByRecursion (λ r. r.last + 2 ≤ n) (take place runs)
 
   -- the run at the place has the number, or it is a neighbour of the number
   pub record Touches : Type 0 where

@@ -1,7 +1,7 @@
 -- Runs: the maximal stretches of the numbers that pass a test. Assumes nothing.
 use Rattle.std.specs.Prelude.{◌≡◌, ℕ, zero, suc, ◌+◌, ◌<◌, ◌≤◌, Bool, true, false, cond, not, ◌&&◌, ◌||◌, List, [], ◌∷◌, length, ◌==◌, nat_le}
 use Rattle.runs.specs.declared.run.Run.{Run}
-use Rattle.std.specs.List.{AllByRecursion as All}
+use Rattle.std.specs.List.{AllByRecursion}
 
 -- a table of runs has so many places
 abbrev pub most_runs : ℕ
@@ -31,7 +31,7 @@ pub record Maximal (passes : ℕ → Bool) (r : Run) : Type 0 where
 -- the runs are all the maximal stretches of the numbers that pass, in rising order
 pub record Stretches (passes : ℕ → Bool) (runs : List Run) : Type 0 where
   pub rising : ascending 0 runs ≡ true
-  pub maximal : All (Maximal passes) runs
+  pub maximal : AllByRecursion (Maximal passes) runs
   pub complete : (n : ℕ) → passes n ≡ true → covers runs n ≡ true
 
 -- a number in front of stretches above it: it lengthens the first where that begins right after it, else it stands alone

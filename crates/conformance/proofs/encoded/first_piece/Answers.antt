@@ -5,6 +5,6 @@ pub returns : goal.returns
 returns c =
     let w = c.args.written.now in
     record {
-      pieces = third w _ c.in-default.ensures c.in-default-hexadecimal.ensures c.repeated.ensures;
+      pieces = third w _ c.in_default.ensures c.in_default-hexadecimal.ensures c.repeated.ensures;
       wide = third_wide w _ c.repeated.ensures;
     }

@@ -3,4 +3,4 @@ use Rattle.conformance.proofs.encoded.put.Goals as goal
 use Rattle.std.proofs.Common.{vec_items}
 
 pub loop-preserved : goal.loop-preserved
-loop-preserved c = gain_more (vec_items c.args.text.now) _ _ c.loop.counter _ c.loop.invariant c.in-ok-push.ensures.items
+loop-preserved c = gain_more (vec_items c.args.text.now) _ _ c.loop.counter _ c.loop.invariant c.in_ok-push.ensures.items

@@ -6,43 +6,43 @@ use Rattle.json_text.specs.Grammar.{Value}
 use Rattle.json_text.specs.Grammar.Json.{jnumber, jobject, jstring}
 use Rattle.std.proofs.lemmas.Bool.{true≢false}
 
-pub returns-in-err-four : goal.returns-in-err-four
-returns-in-err-four c = λ tree at. rw c.from-residual.ensures (λ id payload call. c.in-err-four.ensures tree at _ _ _ _ call.is)
+pub returns-in_err-four : goal.returns-in_err-four
+returns-in_err-four c = λ tree at. rw c.from_residual.ensures (λ id payload call. c.in_err-four.ensures tree at _ _ _ _ call.is)
 
-pub returns-then-not-is-two : goal.returns-then-not-is-two
-returns-then-not-is-two c = λ tree at id payload call.
-    let f = c.in-ok-four.ensures tree at in
+pub returns-then-not-is_two : goal.returns-then-not-is_two
+returns-then-not-is_two c = λ tree at id payload call.
+    let f = c.in_ok-four.ensures tree at in
     let g = same_four tree _ _ _ _ _ _ _ _ f.is call.is in
-    true≢false (sym ((c.if-not-is-two.ensures f.a f.first_is).1 g.0))
+    true≢false (sym ((c.if-not-is_two.ensures f.a f.first_is).1 g.0))
 
-pub returns-then-not-is-string : goal.returns-then-not-is-string
-returns-then-not-is-string c = λ tree at id payload call.
-    let f = c.in-ok-four.ensures tree at in
+pub returns-then-not-is_string : goal.returns-then-not-is_string
+returns-then-not-is_string c = λ tree at id payload call.
+    let f = c.in_ok-four.ensures tree at in
     let g = same_four tree _ _ _ _ _ _ _ _ f.is call.is in
-    true≢false (sym ((c.if-not-is-string.ensures f.c (codes "TransactionEvent") f.third_is refl).1 g.2))
+    true≢false (sym ((c.if-not-is_string.ensures f.c (codes "TransactionEvent") f.third_is refl).1 g.2))
 
-pub returns-in-err-id : goal.returns-in-err-id
-returns-in-err-id c = λ tree at.
-    let f = c.in-ok-four.ensures tree at in
-    rw c.from-residual-in-err-id.ensures (λ id payload call.
+pub returns-in_err-id : goal.returns-in_err-id
+returns-in_err-id c = λ tree at.
+    let f = c.in_ok-four.ensures tree at in
+    rw c.from_residual-in_err-id.ensures (λ id payload call.
     let g = same_four tree _ _ _ _ _ _ _ _ f.is call.is in
-    c.in-err-id.ensures f.b f.second_is id g.1)
+    c.in_err-id.ensures f.b f.second_is id g.1)
 
-pub returns-then-not-is-object : goal.returns-then-not-is-object
-returns-then-not-is-object c = λ tree at id payload call.
-    let f = c.in-ok-four.ensures tree at in
+pub returns-then-not-is_object : goal.returns-then-not-is_object
+returns-then-not-is_object c = λ tree at id payload call.
+    let f = c.in_ok-four.ensures tree at in
     let g = same_four tree _ _ _ _ _ _ _ _ f.is call.is in
-    c.if-not-is-object.ensures f.d f.fourth_is payload g.3
+    c.if-not-is_object.ensures f.d f.fourth_is payload g.3
 
 pub returns : goal.returns
 returns c = λ tree at.
-    let f = c.in-ok-four.ensures tree at in
-    let two = (c.if-not-is-two.ensures f.a f.first_is).0 refl in
-    let action = (c.if-not-is-string.ensures f.c (codes "TransactionEvent") f.third_is refl).0 refl in
-    let id = c.in-ok-id.ensures f.b f.second_is in
-    let object = c.if-not-is-object.ensures f.d f.fourth_is in
+    let f = c.in_ok-four.ensures tree at in
+    let two = (c.if-not-is_two.ensures f.a f.first_is).0 refl in
+    let action = (c.if-not-is_string.ensures f.c (codes "TransactionEvent") f.third_is refl).0 refl in
+    let id = c.in_ok-id.ensures f.b f.second_is in
+    let object = c.if-not-is_object.ensures f.d f.fourth_is in
     record {
       payload = object.0;
       call = record { is = f.is ∙ (λ i. array_of_four (two i) (id i) (action i) (object.1 i)) };
-      payload_is = subst (λ t. Value t c.in-ok-four.four.fourth.now) object.1 f.fourth_is;
+      payload_is = subst (λ t. Value t c.in_ok-four.four.fourth.now) object.1 f.fourth_is;
     }

@@ -4,50 +4,50 @@ use Rattle.frame.proofs.array.four_values.Goals as goal
 use Rattle.json_text.specs.Grammar.Elems.{elem}
 use Rattle.json_text.specs.Grammar.Json.{jarray}
 
-pub returns-in-err-first-element : goal.returns-in-err-first-element
-returns-in-err-first-element c = λ tree at. rw c.from-residual.ensures (λ p q r s is. c.in-err-first-element.ensures tree at p _ is)
+pub returns-in_err-first_element : goal.returns-in_err-first_element
+returns-in_err-first_element c = λ tree at. rw c.from_residual.ensures (λ p q r s is. c.in_err-first_element.ensures tree at p _ is)
 
-pub returns-in-err-a : goal.returns-in-err-a
-returns-in-err-a c = λ tree at.
-    let vals = c.in-ok-first-element.ensures tree at in
-    let a = c.next-element-a.ensures vals.values vals.ahead in
-    let end = none_left a.others _ a.more c.in-err-a.was in
-    rw c.from-residual-in-err-a.ensures (not_four tree (λ four. omega (arith, four, ap size_of vals.is, ap size a.is, ap size end)))
+pub returns-in_err-a : goal.returns-in_err-a
+returns-in_err-a c = λ tree at.
+    let vals = c.in_ok-first_element.ensures tree at in
+    let a = c.next_element-a.ensures vals.values vals.ahead in
+    let end = none_left a.others _ a.more c.in_err-a.was in
+    rw c.from_residual-in_err-a.ensures (not_four tree (λ four. omega (arith, four, ap size_of vals.is, ap size a.is, ap size end)))
 
-pub returns-in-err-b : goal.returns-in-err-b
-returns-in-err-b c = λ tree at.
-    let vals = c.in-ok-first-element.ensures tree at in
-    let a = c.next-element-a.ensures vals.values vals.ahead in
-    let b = c.next-element-b.ensures a.others (ahead_of a.others _ _ a.more c.in-ok-a.was) in
-    let end = none_left b.others _ b.more c.in-err-b.was in
-    rw c.from-residual-in-err-b.ensures (not_four tree (λ four. omega (arith, four, ap size_of vals.is, ap size a.is, ap size b.is, ap size end)))
+pub returns-in_err-b : goal.returns-in_err-b
+returns-in_err-b c = λ tree at.
+    let vals = c.in_ok-first_element.ensures tree at in
+    let a = c.next_element-a.ensures vals.values vals.ahead in
+    let b = c.next_element-b.ensures a.others (ahead_of a.others _ _ a.more c.in_ok-a.was) in
+    let end = none_left b.others _ b.more c.in_err-b.was in
+    rw c.from_residual-in_err-b.ensures (not_four tree (λ four. omega (arith, four, ap size_of vals.is, ap size a.is, ap size b.is, ap size end)))
 
-pub returns-in-err-c : goal.returns-in-err-c
-returns-in-err-c c = λ tree at.
-    let vals = c.in-ok-first-element.ensures tree at in
-    let a = c.next-element-a.ensures vals.values vals.ahead in
-    let b = c.next-element-b.ensures a.others (ahead_of a.others _ _ a.more c.in-ok-a.was) in
-    let d = c.next-element-c.ensures b.others (ahead_of b.others _ _ b.more c.in-ok-b.was) in
-    let end = none_left d.others _ d.more c.in-err-c.was in
-    rw c.from-residual-in-err-c.ensures (not_four tree (λ four. omega (arith, four, ap size_of vals.is, ap size a.is, ap size b.is, ap size d.is, ap size end)))
+pub returns-in_err-c : goal.returns-in_err-c
+returns-in_err-c c = λ tree at.
+    let vals = c.in_ok-first_element.ensures tree at in
+    let a = c.next_element-a.ensures vals.values vals.ahead in
+    let b = c.next_element-b.ensures a.others (ahead_of a.others _ _ a.more c.in_ok-a.was) in
+    let d = c.next_element-c.ensures b.others (ahead_of b.others _ _ b.more c.in_ok-b.was) in
+    let end = none_left d.others _ d.more c.in_err-c.was in
+    rw c.from_residual-in_err-c.ensures (not_four tree (λ four. omega (arith, four, ap size_of vals.is, ap size a.is, ap size b.is, ap size d.is, ap size end)))
 
-pub returns-then-is-some : goal.returns-then-is-some
-returns-then-is-some c = λ tree at.
-    let vals = c.in-ok-first-element.ensures tree at in
-    let a = c.next-element-a.ensures vals.values vals.ahead in
-    let b = c.next-element-b.ensures a.others (ahead_of a.others _ _ a.more c.in-ok-a.was) in
-    let d = c.next-element-c.ensures b.others (ahead_of b.others _ _ b.more c.in-ok-b.was) in
-    let e = c.next-element-d.ensures d.others (ahead_of d.others _ _ d.more c.in-ok-c.was) in
-    not_four tree (λ four. omega (arith, four, ap size_of vals.is, ap size a.is, ap size b.is, ap size d.is, ap size e.is, some_left e.others _ (sym c.if-is-some.ensures) e.more))
+pub returns-then-is_some : goal.returns-then-is_some
+returns-then-is_some c = λ tree at.
+    let vals = c.in_ok-first_element.ensures tree at in
+    let a = c.next_element-a.ensures vals.values vals.ahead in
+    let b = c.next_element-b.ensures a.others (ahead_of a.others _ _ a.more c.in_ok-a.was) in
+    let d = c.next_element-c.ensures b.others (ahead_of b.others _ _ b.more c.in_ok-b.was) in
+    let e = c.next_element-d.ensures d.others (ahead_of d.others _ _ d.more c.in_ok-c.was) in
+    not_four tree (λ four. omega (arith, four, ap size_of vals.is, ap size a.is, ap size b.is, ap size d.is, ap size e.is, some_left e.others _ (sym c.if-is_some.ensures) e.more))
 
 pub returns : goal.returns
 returns c = λ tree at.
-    let vals = c.in-ok-first-element.ensures tree at in
-    let a = c.next-element-a.ensures vals.values vals.ahead in
-    let b = c.next-element-b.ensures a.others (ahead_of a.others _ _ a.more c.in-ok-a.was) in
-    let d = c.next-element-c.ensures b.others (ahead_of b.others _ _ b.more c.in-ok-b.was) in
-    let e = c.next-element-d.ensures d.others (ahead_of d.others _ _ d.more c.in-ok-c.was) in
-    let end = nothing_left e.others _ (sym c.if-is-some.ensures) e.more in
+    let vals = c.in_ok-first_element.ensures tree at in
+    let a = c.next_element-a.ensures vals.values vals.ahead in
+    let b = c.next_element-b.ensures a.others (ahead_of a.others _ _ a.more c.in_ok-a.was) in
+    let d = c.next_element-c.ensures b.others (ahead_of b.others _ _ b.more c.in_ok-b.was) in
+    let e = c.next_element-d.ensures d.others (ahead_of d.others _ _ d.more c.in_ok-c.was) in
+    let end = nothing_left e.others _ (sym c.if-is_some.ensures) e.more in
     record {
       a = a.tree;
       b = b.tree;

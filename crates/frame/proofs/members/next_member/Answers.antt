@@ -7,14 +7,14 @@ use Rattle.json_text.specs.Parts.{skip}
 pub returns : goal.returns
 returns c =
     let s = c.args.s.now in
-    let name = c.split-value.result in
-    let value = c.split-value-2.result in
+    let name = c.split_value.result in
+    let value = c.split_value-2.result in
     record {
       taken = λ ms ahead.
           let f = front ms ahead.bytes ahead.end s ahead.whole ahead.is in
-          let first = c.split-value.ensures.text f.called f.colon (c.skip_white.ensures ∙ f.name_front) f.chars in
-          let past = c.past-colon.ensures.found f.after_colon (ap skip first.1 ∙ f.colon_front) in
-          let second = c.split-value-2.ensures.parts f.value f.behind (record { tree = f.tree; whole = c.skip-white-2.ensures ∙ ap skip past ∙ f.value_front; is = f.value_is; on = f.on }) in
+          let first = c.split_value.ensures.text f.called f.colon (c.skip_white.ensures ∙ f.name_front) f.chars in
+          let past = c.past_colon.ensures.found f.after_colon (ap skip first.1 ∙ f.colon_front) in
+          let second = c.split_value-2.ensures.parts f.value f.behind (record { tree = f.tree; whole = c.skip_white-2.ensures ∙ ap skip past ∙ f.value_front; is = f.value_is; on = f.on }) in
           record {
             called = f.called;
             tree = f.tree;
@@ -26,6 +26,6 @@ returns c =
           };
       shorter =
           let long : length value.1.now ≤ length s =
-          omega (arith, length-append name.0.now name.1.now, ap length c.split-value.ensures.whole, ap length c.skip_white.ensures, skip_short s, c.past-colon.ensures.bound, ap length c.skip-white-2.ensures, skip_short c.past-colon.result.now, length-append value.0.now value.1.now, ap length c.split-value-2.ensures.whole) in
+          omega (arith, length-append name.0.now name.1.now, ap length c.split_value.ensures.whole, ap length c.skip_white.ensures, skip_short s, c.past_colon.ensures.bound, ap length c.skip_white-2.ensures, skip_short c.past_colon.result.now, length-append value.0.now value.1.now, ap length c.split_value-2.ensures.whole) in
           shorter_from c.after-rest.result (length value.1.now) (length s) long c.after-rest.ensures.shorter;
     }

@@ -2,10 +2,10 @@ use Rattle.std.proofs.Common.{◌≡◌, true, false, eqb, length, get_or, refl,
 use Rattle.frame.proofs.Scalars.{object_by_first, object_first, when_eqb}
 use Rattle.frame.proofs.texts.is_object.Goals as goal
 
-pub returns-then-is-empty : goal.returns-then-is-empty
-returns-then-is-empty c = λ tree v-is ms e.
+pub returns-then-is_empty : goal.returns-then-is_empty
+returns-then-is_empty c = λ tree v-is ms e.
     let some = object_first tree ms c.args.value.now v-is e in
-    let none = true-eqb (length c.args.value.now) 0 c.if-is-empty.ensures in
+    let none = true-eqb (length c.args.value.now) 0 c.if-is_empty.ensures in
     omega (arith, some.0, none)
 
 pub returns : goal.returns

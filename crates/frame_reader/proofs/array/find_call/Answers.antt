@@ -7,55 +7,55 @@ use Rattle.json_text.specs.Grammar.Elems.{elem}
 use Rattle.json_text.specs.Grammar.Json.{jarray}
 use Rattle.std.proofs.lemmas.Bool.{true≢false}
 
-pub returns-in-err-four : goal.returns-in-err-four
-returns-in-err-four c = λ tree at. rw c.from-residual.ensures (λ id payload call. c.in-err-four.ensures tree at _ _ _ _ call.is)
+pub returns-in_err-four : goal.returns-in_err-four
+returns-in_err-four c = λ tree at. rw c.from_residual.ensures (λ id payload call. c.in_err-four.ensures tree at _ _ _ _ call.is)
 
-pub returns-then-not-is-two : goal.returns-then-not-is-two
-returns-then-not-is-two c = λ tree at id payload call.
-    let f = c.in-ok-four.ensures tree at in
+pub returns-then-not-is_two : goal.returns-then-not-is_two
+returns-then-not-is_two c = λ tree at id payload call.
+    let f = c.in_ok-four.ensures tree at in
     let g = same_front tree _ _ _ _ _ _ _ _ _ f.is call.is in
-    true≢false (sym ((c.if-not-is-two.ensures f.a f.first_is).1 g.0))
+    true≢false (sym ((c.if-not-is_two.ensures f.a f.first_is).1 g.0))
 
-pub returns-then-not-is-string : goal.returns-then-not-is-string
-returns-then-not-is-string c = λ tree at id payload call.
-    let f = c.in-ok-four.ensures tree at in
+pub returns-then-not-is_string : goal.returns-then-not-is_string
+returns-then-not-is_string c = λ tree at id payload call.
+    let f = c.in_ok-four.ensures tree at in
     let g = same_front tree _ _ _ _ _ _ _ _ _ f.is call.is in
-    true≢false (sym ((c.if-not-is-string.ensures f.c (codes "TransactionEvent") f.third_is refl).1 g.2))
+    true≢false (sym ((c.if-not-is_string.ensures f.c (codes "TransactionEvent") f.third_is refl).1 g.2))
 
-pub returns-in-err-id : goal.returns-in-err-id
-returns-in-err-id c = λ tree at.
-    let f = c.in-ok-four.ensures tree at in
-    rw c.from-residual-in-err-id.ensures (λ id payload call.
+pub returns-in_err-id : goal.returns-in_err-id
+returns-in_err-id c = λ tree at.
+    let f = c.in_ok-four.ensures tree at in
+    rw c.from_residual-in_err-id.ensures (λ id payload call.
     let g = same_front tree _ _ _ _ _ _ _ _ _ f.is call.is in
-    c.in-err-id.ensures f.b f.second_is id g.1)
+    c.in_err-id.ensures f.b f.second_is id g.1)
 
-pub returns-in-err-after : goal.returns-in-err-after
-returns-in-err-after c = λ tree at.
-    let f = c.in-ok-four.ensures tree at in
-    rw c.from-residual-in-err-after.ensures (λ id payload call.
+pub returns-in_err-after : goal.returns-in_err-after
+returns-in_err-after c = λ tree at.
+    let f = c.in_ok-four.ensures tree at in
+    rw c.from_residual-in_err-after.ensures (λ id payload call.
     let g = same_front tree _ _ _ _ _ _ _ _ _ f.is call.is in
     let i = braced f.d payload _ f.behind (skipped f.fourth_is) g.3 in
-    c.in-err-after.ensures.found i.0 i.1)
+    c.in_err-after.ensures.found i.0 i.1)
 
-pub returns-then-is-some : goal.returns-then-is-some
-returns-then-is-some c = λ tree at id payload call.
-    let f = c.in-ok-four.ensures tree at in
+pub returns-then-is_some : goal.returns-then-is_some
+returns-then-is_some c = λ tree at id payload call.
+    let f = c.in_ok-four.ensures tree at in
     let g = same_front tree _ _ _ _ _ _ _ _ _ f.is call.is in
-    let walk = c.find-all.ensures payload f.behind (opened f.d payload _ f.behind _ (skipped f.fourth_is) g.3 c.in-ok-after.ensures.found) in
+    let walk = c.find_all.ensures payload f.behind (opened f.d payload _ f.behind _ (skipped f.fourth_is) g.3 c.in_ok-after.ensures.found) in
     let left = more_in f.others _ f.behind f.end c.after-2.result walk.1 c.after-2.ensures.found f.more in
-    omega (arith, some_left f.others f.end c.after-2.result (sym c.if-is-some.ensures) left, ap size g.4)
+    omega (arith, some_left f.others f.end c.after-2.result (sym c.if-is_some.ensures) left, ap size g.4)
 
 pub returns : goal.returns
 returns c = λ tree at.
-    let f = c.in-ok-four.ensures tree at in
-    let two = (c.if-not-is-two.ensures f.a f.first_is).0 refl in
-    let action = (c.if-not-is-string.ensures f.c (codes "TransactionEvent") f.third_is refl).0 refl in
-    let id = c.in-ok-id.ensures f.b f.second_is in
-    let brace = c.in-ok-after.ensures.found in
+    let f = c.in_ok-four.ensures tree at in
+    let two = (c.if-not-is_two.ensures f.a f.first_is).0 refl in
+    let action = (c.if-not-is_string.ensures f.c (codes "TransactionEvent") f.third_is refl).0 refl in
+    let id = c.in_ok-id.ensures f.b f.second_is in
+    let brace = c.in_ok-after.ensures.found in
     let object = object_by f.d (opens_with f.d _ f.behind 123 _ (skipped f.fourth_is) brace) in
-    let walk = c.find-all.ensures object.0 f.behind (opened f.d object.0 _ f.behind _ (skipped f.fourth_is) object.1 brace) in
+    let walk = c.find_all.ensures object.0 f.behind (opened f.d object.0 _ f.behind _ (skipped f.fourth_is) object.1 brace) in
     let left = more_in f.others _ f.behind f.end c.after-2.result walk.1 c.after-2.ensures.found f.more in
-    let end = nothing_left f.others f.end c.after-2.result (sym c.if-is-some.ensures) left in
+    let end = nothing_left f.others f.end c.after-2.result (sym c.if-is_some.ensures) left in
     record {
       payload = object.0;
       call = record { is = f.is ∙ (λ i. jarray (elem (two i) (elem (id i) (elem (action i) (elem (object.1 i) (end i)))))) };

@@ -6,5 +6,5 @@ use Rattle.frame_reader.proofs.fields.find_register.Goals as goal
 
 pub returns-in-None : goal.returns-in-None
 returns-in-None c = λ payload f.
-    unreadable_in payload _ (is_optional MeterFinds (codes "meterValue") payload _ _ c.in-ok-sample.ensures f)
-    (c.in-Some.is ∙ ap Some (c.in-ok-sample-2.was ∙ ap Ok c.in-None.is))
+    unreadable_in payload _ (is_optional MeterFinds (codes "meterValue") payload _ _ c.in_ok-sample.ensures f)
+    (c.in-Some.is ∙ ap Some (c.in_ok-sample-2.was ∙ ap Ok c.in-None.is))

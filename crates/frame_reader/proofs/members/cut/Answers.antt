@@ -6,6 +6,6 @@ use Rattle.json_text.specs.Grammar.{Value}
 pub returns : goal.returns
 returns c = record {
   through = λ tree behind b.
-      let parts = c.split-value.ensures.parts b.value behind (split_of b) in (subst (Value tree) (sym parts.0) b.is, parts.1);
-  bound = omega (arith, length-append c.split-value.result.0.now c.split-value.result.1.now, ap length c.split-value.ensures.whole);
+      let parts = c.split_value.ensures.parts b.value behind (split_of b) in (subst (Value tree) (sym parts.0) b.is, parts.1);
+  bound = omega (arith, length-append c.split_value.result.0.now c.split_value.result.1.now, ap length c.split_value.ensures.whole);
 }

@@ -7,11 +7,11 @@ use Rattle.json_text.specs.Parts.{skip}
 pub returns : goal.returns
 returns c =
     let s = c.args.s.now in
-    let name = c.split-value.result in
+    let name = c.split_value.result in
     record {
       taken = λ ms end ahead.
           let f = front ms ahead.bytes end s ahead.whole ahead.is in
-          let first = c.split-value.ensures.text f.called f.colon (c.skip_white.ensures ∙ f.name_front) f.chars in
+          let first = c.split_value.ensures.text f.called f.colon (c.skip_white.ensures ∙ f.name_front) f.chars in
           let past = c.past.ensures.found f.after_colon (ap skip first.1 ∙ f.colon_front) in
           record {
             called = f.called;
@@ -20,9 +20,9 @@ returns c =
             is = f.is;
             name_is = first.0;
             behind = f.behind;
-            value = subst (λ l. Begins f.tree l f.behind) (sym (c.skip-white-2.ensures ∙ ap skip past)) f.value;
+            value = subst (λ l. Begins f.tree l f.behind) (sym (c.skip_white-2.ensures ∙ ap skip past)) f.value;
             more = f.more;
           };
       bound =
-          omega (arith, length-append name.0.now name.1.now, ap length c.split-value.ensures.whole, ap length c.skip_white.ensures, skip_short s, c.past.ensures.bound, ap length c.skip-white-2.ensures, skip_short c.past.result.now);
+          omega (arith, length-append name.0.now name.1.now, ap length c.split_value.ensures.whole, ap length c.skip_white.ensures, skip_short s, c.past.ensures.bound, ap length c.skip_white-2.ensures, skip_short c.past.result.now);
     }

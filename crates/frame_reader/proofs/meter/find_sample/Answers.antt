@@ -5,17 +5,17 @@ use Rattle.frame_reader.proofs.Looks.{at_end, falls, fewer, found_all}
 use Rattle.frame_reader.proofs.meter.find_sample.Goals as goal
 
 pub loop-left-init : goal.loop-left-init
-loop-left-init c = (c.first-member-left.ensures.bound, λ ms end o. (ms, c.first-member-left.ensures.left ms end o, ((refl, refl), (refl, refl))))
+loop-left-init c = (c.first_member-left.ensures.bound, λ ms end o. (ms, c.first_member-left.ensures.left ms end o, ((refl, refl), (refl, refl))))
 
 pub loop-left-preserved : goal.loop-left-preserved
 loop-left-preserved c = (
-  fewer c.args.s.now _ c.loop-left.left c.next-member-left.result c.in-More.member c.in-More.is (omega (arith, c.take-name.ensures.bound, c.cut.ensures.bound)) c.loop-left.invariant.0 c.next-member-left.ensures.shorter,
+  fewer c.args.s.now _ c.loop-left.left c.next_member-left.result c.in-More.member c.in-More.is (omega (arith, c.take_name.ensures.bound, c.cut.ensures.bound)) c.loop-left.invariant.0 c.next_member-left.ensures.shorter,
   λ ms end o.
       let h = c.loop-left.invariant.1 ms end o in
-      let t = c.take-name.ensures.taken h.0 end (subst (LeftOf h.0 end) c.in-More.is h.1) in
+      let t = c.take_name.ensures.taken h.0 end (subst (LeftOf h.0 end) c.in-More.is h.1) in
       let v = c.cut.ensures.through t.tree t.behind t.value in (
         t.others,
-        c.next-member-left.ensures.left t.others end (subst (λ l. Behind t.others l end) (sym v.1) t.more),
+        c.next_member-left.ensures.left t.others end (subst (λ l. Behind t.others l end) (sym v.1) t.more),
         (
           c.note-value.ensures (codes "value") _ end ms h.0 refl t v.0 h.2.0,
           c.note-measurand.ensures (codes "measurand") _ end ms h.0 refl t v.0 h.2.1,
@@ -25,13 +25,13 @@ loop-left-preserved c = (
 
 pub loop-left-smaller : goal.loop-left-smaller
 loop-left-smaller c =
-    falls _ c.loop-left.left c.next-member-left.result c.in-More.member c.in-More.is (omega (arith, c.take-name.ensures.bound, c.cut.ensures.bound)) c.next-member-left.ensures.shorter
+    falls _ c.loop-left.left c.next_member-left.result c.in-More.member c.in-More.is (omega (arith, c.take_name.ensures.bound, c.cut.ensures.bound)) c.next_member-left.ensures.shorter
 
 pub returns : goal.returns
 returns c = record {
   through = λ ms end o.
       let h = c.loop-left.invariant.1 ms end o in
-      let past = at_end h.0 end c.loop-left.left c.in-default.field-0 c.bytes.result c.in-default.is c.bytes.ensures h.1 in
-      (c.sample-of.ensures ms (found_all Bytes (codes "value") ms _ h.0 past.0 h.2.0) (found_all Bytes (codes "measurand") ms _ h.0 past.0 h.2.1), past.1);
+      let past = at_end h.0 end c.loop-left.left c.in_default.field-0 c.bytes.result c.in_default.is c.bytes.ensures h.1 in
+      (c.sample_of.ensures ms (found_all Bytes (codes "value") ms _ h.0 past.0 h.2.0) (found_all Bytes (codes "measurand") ms _ h.0 past.0 h.2.1), past.1);
   bound = omega (arith, ap (λ r. length r.now) c.bytes.ensures, c.loop-left.invariant.0);
 }

@@ -8,7 +8,7 @@ use Rattle.frame_reader.proofs.payload.find_all.Goals as goal
 pub loop-left-init : goal.loop-left-init
 loop-left-init c = λ ms end o. (
   ms,
-  c.first-member-left.ensures.left ms end o,
+  c.first_member-left.ensures.left ms end o,
   record {
     event_type = (refl, refl);
     timestamp = (refl, refl);
@@ -23,18 +23,18 @@ loop-left-init c = λ ms end o. (
 pub loop-left-preserved : goal.loop-left-preserved
 loop-left-preserved c = λ ms end o.
     let h = c.loop-left.invariant ms end o in
-    let t = c.take-name.ensures.taken h.0 end (subst (LeftOf h.0 end) c.in-More.is h.1) in
-    let v = c.take-value-behind.ensures.through end ms h.0 t h.2 in
-    (t.others, c.next-member-left.ensures.left t.others end (subst (λ l. Behind t.others l end) (sym v.1) t.more), v.0)
+    let t = c.take_name.ensures.taken h.0 end (subst (LeftOf h.0 end) c.in-More.is h.1) in
+    let v = c.take_value-behind.ensures.through end ms h.0 t h.2 in
+    (t.others, c.next_member-left.ensures.left t.others end (subst (λ l. Behind t.others l end) (sym v.1) t.more), v.0)
 
 pub loop-left-smaller : goal.loop-left-smaller
 loop-left-smaller c =
-    falls _ c.loop-left.left c.next-member-left.result c.in-More.member c.in-More.is (omega (arith, c.take-name.ensures.bound, c.take-value-behind.ensures.bound)) c.next-member-left.ensures.shorter
+    falls _ c.loop-left.left c.next_member-left.result c.in-More.member c.in-More.is (omega (arith, c.take_name.ensures.bound, c.take_value-behind.ensures.bound)) c.next_member-left.ensures.shorter
 
 pub returns : goal.returns
 returns c = λ ms end o.
     let h = c.loop-left.invariant ms end o in
-    let past = at_end h.0 end c.loop-left.left c.in-default.field-0 c.bytes.result c.in-default.is c.bytes.ensures h.1 in (
+    let past = at_end h.0 end c.loop-left.left c.in_default.field-0 c.bytes.result c.in_default.is c.bytes.ensures h.1 in (
       record {
         event_type = found_all Bytes (codes "eventType") ms _ h.0 past.0 h.2.event_type;
         timestamp = found_all Bytes (codes "timestamp") ms _ h.0 past.0 h.2.timestamp;

@@ -12,7 +12,7 @@ pub returns-then-eq : goal.returns-then-eq
 returns-then-eq c = record {
   through = λ end ms left t far.
       let named = unquoted t.called (codes "transactionInfo") (sym t.name_is ∙ (slice_eq-Decides Decides-eqb _ _ _ c.eq.ensures).0 c.if-eq.true) in
-      let found = c.find-id.ensures.through t.tree t.behind t.value in (
+      let found = c.find_id.ensures.through t.tree t.behind t.value in (
         record {
           event_type = pass Bytes _ (codes "transactionInfo") (codes "eventType") ms left t.called t.tree t.others t.is named refl far.event_type;
           timestamp = pass Bytes _ (codes "transactionInfo") (codes "timestamp") ms left t.called t.tree t.others t.is named refl far.timestamp;
@@ -24,14 +24,14 @@ returns-then-eq c = record {
         },
         found.1,
       );
-  bound = c.find-id.ensures.bound;
+  bound = c.find_id.ensures.bound;
 }
 
 pub returns-then-eq-2 : goal.returns-then-eq-2
 returns-then-eq-2 c = record {
   through = λ end ms left t far.
       let named = unquoted t.called (codes "meterValue") (sym t.name_is ∙ (slice_eq-Decides Decides-eqb _ _ _ c.eq-2.ensures).0 c.if-eq-2.true) in
-      let found = c.find-meter.ensures.through t.tree t.behind t.value in (
+      let found = c.find_meter.ensures.through t.tree t.behind t.value in (
         record {
           event_type = pass Bytes _ (codes "meterValue") (codes "eventType") ms left t.called t.tree t.others t.is named refl far.event_type;
           timestamp = pass Bytes _ (codes "meterValue") (codes "timestamp") ms left t.called t.tree t.others t.is named refl far.timestamp;
@@ -43,7 +43,7 @@ returns-then-eq-2 c = record {
         },
         found.1,
       );
-  bound = c.find-meter.ensures.bound;
+  bound = c.find_meter.ensures.bound;
 }
 
 pub returns : goal.returns

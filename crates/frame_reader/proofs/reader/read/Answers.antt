@@ -14,42 +14,42 @@ returns-then-text-gt-LONGEST c =
     let h : Reads bytes (Err TextTooLong) = too_long c.if-text-gt-LONGEST.true in
     record { reads = h; reads_as = reads_as bytes (Err TextTooLong) h; only = λ other. same_answer bytes (Err TextTooLong) other h }
 
-pub returns-in-err-check : goal.returns-in-err-check
-returns-in-err-check c =
-    let h = not_checked c.args.text.now _ _ (omega arith) c.from-residual.ensures.1 c.in-err-check.ensures.judged in
+pub returns-in_err-check : goal.returns-in_err-check
+returns-in_err-check c =
+    let h = not_checked c.args.text.now _ _ (omega arith) c.from_residual.ensures.1 c.in_err-check.ensures.judged in
     record { reads = h; reads_as = reads_as _ _ h; only = λ other. same_answer _ _ other h }
 
-pub returns-in-default : goal.returns-in-default
-returns-in-default c =
+pub returns-in_default : goal.returns-in_default
+returns-in_default c =
     let bytes = c.args.text.now in
-    let json = c.in-ok-check.ensures.judged in
+    let json = c.in_ok-check.ensures.judged in
     let tree = json.0.0 in
     let is = json.0.1 in
-    let h : Reads bytes (Err NotAFrame) = not_a_frame {tree = tree} (record { short = omega arith; shallow = json.1; is = is }) (c.in-default.ensures tree (at_text tree bytes is)) in
+    let h : Reads bytes (Err NotAFrame) = not_a_frame {tree = tree} (record { short = omega arith; shallow = json.1; is = is }) (c.in_default.ensures tree (at_text tree bytes is)) in
     record { reads = h; reads_as = reads_as bytes (Err NotAFrame) h; only = λ other. same_answer bytes (Err NotAFrame) other h }
 
 -- the call that was found
 called : (c : In-Some) → (payload : Membs) × Called c.args.text.now c.in-Some.call.id.now payload × FoundAll c.in-Some.call.payload payload
 called c =
     let bytes = c.args.text.now in
-    let json = c.in-ok-check.ensures.judged in
+    let json = c.in_ok-check.ensures.judged in
     let tree = json.0.0 in
     let is = json.0.1 in
     let call = c.in-Some.ensures tree (at_text tree bytes is) in
     (call.payload, record { tree = tree; parsed = record { short = omega arith; shallow = json.1; is = is }; call = call.call }, call.payload_is)
 
-pub returns-in-err-fields : goal.returns-in-err-fields
-returns-in-err-fields c =
-    let found = called (goal.at.returns-in-err-fields c).In-Some in
-    let bad = c.in-err-fields.ensures found.0 found.2 in
-    let h = not_named c.args.text.now _ found.0 _ _ found.1 c.from-residual-in-err-fields.ensures.1 bad.0 bad.1 in
+pub returns-in_err-fields : goal.returns-in_err-fields
+returns-in_err-fields c =
+    let found = called (goal.at.returns-in_err-fields c).In-Some in
+    let bad = c.in_err-fields.ensures found.0 found.2 in
+    let h = not_named c.args.text.now _ found.0 _ _ found.1 c.from_residual-in_err-fields.ensures.1 bad.0 bad.1 in
     record { reads = h; reads_as = reads_as _ _ h; only = λ other. same_answer _ _ other h }
 
 pub returns-in-Some-transmission : goal.returns-in-Some-transmission
 returns-in-Some-transmission c =
     let bytes = c.args.text.now in
     let found = called (goal.at.returns-in-Some-transmission c).In-Some in
-    let fields = c.in-ok-fields.ensures found.0 found.2 in
+    let fields = c.in_ok-fields.ensures found.0 found.2 in
     let h : Reads bytes (Ok c.in-Some-transmission.transmission) =
     record { id = c.in-Some.call.id.now; payload = found.0; called = found.1; named = fields.0; says = c.in-Some-transmission.ensures found.0 fields.1 } in
     record { reads = h; reads_as = reads_as bytes _ h; only = λ other. same_answer bytes _ other h }
@@ -58,6 +58,6 @@ pub returns-in-None : goal.returns-in-None
 returns-in-None c =
     let bytes = c.args.text.now in
     let found = called (goal.at.returns-in-None c).In-Some in
-    let fields = c.in-ok-fields.ensures found.0 found.2 in
+    let fields = c.in_ok-fields.ensures found.0 found.2 in
     let h : Reads bytes (Err BadValue) = bad_value found.1 fields.0 (c.in-None.ensures found.0 fields.1) in
     record { reads = h; reads_as = reads_as bytes (Err BadValue) h; only = λ other. same_answer bytes (Err BadValue) other h }

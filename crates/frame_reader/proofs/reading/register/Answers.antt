@@ -12,13 +12,13 @@ returns-in-Unreadable c = λ payload m.
     let s = no_sample_in _ (subst (MeterOf (under (codes "meterValue") payload)) c.in-Unreadable.is m) in
     unreadable payload s.0 s.1 s.2
 
-pub returns-in-err-register : goal.returns-in-err-register
-returns-in-err-register c = λ payload m.
+pub returns-in_err-register-in-Sampled : goal.returns-in_err-register-in-Sampled
+returns-in_err-register-in-Sampled c = λ payload m.
     let s = sample_in _ _ (subst (MeterOf (under (codes "meterValue") payload)) c.in-Sampled.is m) in
-    rw c.from-residual.ensures (untold payload s.0 _ s.1 s.2 (c.in-err-register.ensures s.2.sample s.2.of))
+    rw c.from_residual.ensures (untold payload s.0 _ s.1 s.2 (c.in_err-register-in-Sampled.ensures s.2.sample s.2.of))
 
-pub returns-in-ok-register : goal.returns-in-ok-register
-returns-in-ok-register c = λ payload m.
+pub returns-in_ok-register-in-Sampled : goal.returns-in_ok-register-in-Sampled
+returns-in_ok-register-in-Sampled c = λ payload m.
     let s = sample_in _ _ (subst (MeterOf (under (codes "meterValue") payload)) c.in-Sampled.is m) in
-    let told = c.in-ok-register.ensures s.2.sample s.2.of in
+    let told = c.in_ok-register-in-Sampled.ensures s.2.sample s.2.of in
     told_by payload s.0 _ _ s.1 s.2 told.0 told.1

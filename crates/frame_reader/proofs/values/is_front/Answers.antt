@@ -5,9 +5,9 @@ use Rattle.json_text.specs.Grammar.Json.{jstring}
 use Rattle.std.proofs.lemmas.Slice.Eq.{slice_eq-Decides}
 use Rattle.std.proofs.lemmas.Bool.Decides.{Decides-eqb}
 
-pub returns-then-id-lt-TRANSACTION-ID-LENGTH : goal.returns-then-id-lt-TRANSACTION-ID-LENGTH
-returns-then-id-lt-TRANSACTION-ID-LENGTH c = λ tree station session number attempt v e.
-    absurd (omega (arith, ap length e, front_long station session number attempt, c.if-id-lt-TRANSACTION-ID-LENGTH.true))
+pub returns-then-id-lt-TRANSACTION_ID_LENGTH : goal.returns-then-id-lt-TRANSACTION_ID_LENGTH
+returns-then-id-lt-TRANSACTION_ID_LENGTH c = λ tree station session number attempt v e.
+    absurd (omega (arith, ap length e, front_long station session number attempt, c.if-id-lt-TRANSACTION_ID_LENGTH.true))
 
 pub returns-in-Some : goal.returns-in-Some
 returns-in-Some c = λ tree station session number attempt v e.

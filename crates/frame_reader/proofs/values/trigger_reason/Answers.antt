@@ -3,18 +3,18 @@ use Rattle.frame_reader.proofs.Forms.{no_reason}
 use Rattle.frame_reader.proofs.values.trigger_reason.Goals as goal
 use Rattle.std.proofs.lemmas.Bool.{true≢false}
 
-pub returns-then-is-string : goal.returns-then-is-string
-returns-then-is-string c = λ tree v. (c.if-is-string.ensures tree (codes "CablePluggedIn") v refl).0 refl
+pub returns-then-is_string : goal.returns-then-is_string
+returns-then-is_string c = λ tree v. (c.if-is_string.ensures tree (codes "CablePluggedIn") v refl).0 refl
 
-pub returns-then-is-string-2 : goal.returns-then-is-string-2
-returns-then-is-string-2 c = λ tree v. (c.if-is-string-2.ensures tree (codes "MeterValuePeriodic") v refl).0 refl
+pub returns-then-is_string-2 : goal.returns-then-is_string-2
+returns-then-is_string-2 c = λ tree v. (c.if-is_string-2.ensures tree (codes "MeterValuePeriodic") v refl).0 refl
 
-pub returns-then-is-string-3 : goal.returns-then-is-string-3
-returns-then-is-string-3 c = λ tree v. (c.if-is-string-3.ensures tree (codes "EVDeparted") v refl).0 refl
+pub returns-then-is_string-3 : goal.returns-then-is_string-3
+returns-then-is_string-3 c = λ tree v. (c.if-is_string-3.ensures tree (codes "EVDeparted") v refl).0 refl
 
-pub returns-else-is-string-3 : goal.returns-else-is-string-3
-returns-else-is-string-3 c = λ tree v.
+pub returns-else-is_string-3 : goal.returns-else-is_string-3
+returns-else-is_string-3 c = λ tree v.
     no_reason tree
-    (λ e. true≢false (sym ((c.if-is-string.ensures tree (codes "CablePluggedIn") v refl).1 e)))
-    (λ e. true≢false (sym ((c.if-is-string-2.ensures tree (codes "MeterValuePeriodic") v refl).1 e)))
-    (λ e. true≢false (sym ((c.if-is-string-3.ensures tree (codes "EVDeparted") v refl).1 e)))
+    (λ e. true≢false (sym ((c.if-is_string.ensures tree (codes "CablePluggedIn") v refl).1 e)))
+    (λ e. true≢false (sym ((c.if-is_string-2.ensures tree (codes "MeterValuePeriodic") v refl).1 e)))
+    (λ e. true≢false (sym ((c.if-is_string-3.ensures tree (codes "EVDeparted") v refl).1 e)))
