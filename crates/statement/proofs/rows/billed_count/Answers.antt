@@ -4,16 +4,16 @@ use Rattle.ledger.specs.Held.{billed, sessions}
 use Rattle.std.proofs.lemmas.List.{take_all}
 use Rattle.statement.proofs.Told.{count_more, some_id}
 use Rattle.statement.proofs.rows.billed_count.Goals as goal
-use Rattle.statement.proofs.rows.billed_count.Goals.{then-is-billed, else-is-billed}
+use Rattle.statement.proofs.rows.billed_count.Goals.{then-is_billed, else-is_billed}
 
 pub loop-place-preserved : goal.loop-place-preserved
 loop-place-preserved c =
     let events = events_in c.args.ledger.now in
     let more = count_more (billed events) (sessions events) c.loop-place.place c.loop-place.count some_id (omega arith) c.loop-place.invariant.0 in
-    let one : (b : Bool) → c.is-billed.result ≡ b → cond {A = ℕ} (billed events (get_or (sessions events) c.loop-place.place some_id)) 1 0 ≡ cond b 1 0 = λ b e. ap (λ x. cond {A = ℕ} x 1 0) (sym (c.is-billed.ensures some_id) ∙ e) in
-    elim c.if-is-billed.branch [
-      | then-is-billed w ↦ (omega (arith, w.count_is, one _ w.if-is-billed.true), omega (arith, w.count_is))
-      | else-is-billed w ↦ (omega (arith, w.count_is, one _ w.if-is-billed.false), omega (arith, w.count_is))
+    let one : (b : Bool) → c.is_billed.result ≡ b → cond {A = ℕ} (billed events (get_or (sessions events) c.loop-place.place some_id)) 1 0 ≡ cond b 1 0 = λ b e. ap (λ x. cond {A = ℕ} x 1 0) (sym (c.is_billed.ensures some_id) ∙ e) in
+    elim c.if-is_billed.branch [
+      | then-is_billed w ↦ (omega (arith, w.count_is, one _ w.if-is_billed.true), omega (arith, w.count_is))
+      | else-is_billed w ↦ (omega (arith, w.count_is, one _ w.if-is_billed.false), omega (arith, w.count_is))
     ]
 
 pub returns : goal.returns

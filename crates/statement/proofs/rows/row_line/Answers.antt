@@ -4,12 +4,12 @@ use Rattle.ledger.specs.Held.{sessions}
 use Rattle.statement.proofs.Told.{payable, some_id, told}
 use Rattle.statement.proofs.rows.row_line.Goals as goal
 
-pub found-line-requires : goal.found-line-requires
-found-line-requires c =
+pub found_line-requires : goal.found_line-requires
+found_line-requires c =
     let events = events_in c.args.ledger.now in
     (payable events (get_or (sessions events) c.args.place some_id) c.in-Some.found (c.in-Some.ensures.1 some_id), c.requires.1)
 
 pub returns-in-Some : goal.returns-in-Some
 returns-in-Some c =
     let events = events_in c.args.ledger.now in
-    λ d. c.found-line.ensures ∙ told events (get_or (sessions events) c.args.place d) c.args.price c.args.part c.in-Some.found (c.in-Some.ensures.1 d)
+    λ d. c.found_line.ensures ∙ told events (get_or (sessions events) c.args.place d) c.args.price c.args.part c.in-Some.found (c.in-Some.ensures.1 d)

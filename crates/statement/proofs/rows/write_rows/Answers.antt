@@ -18,7 +18,7 @@ next_is c =
     let events = events_in c.args.ledger.now in
     let text = rows_text events c.args.price c.args.part in
     let line = part_text events c.args.price c.args.part (get_or (sessions events) c.loop-place.place some_id) in
-    omega (arith, ap length (rows_more events c.args.price c.args.part (sessions events) c.loop-place.place some_id (omega arith)), length-append (text (take c.loop-place.place (sessions events))) line, c.len.ensures.0, ap length (c.row-line-line.ensures some_id), c.loop-place.invariant.0)
+    omega (arith, ap length (rows_more events c.args.price c.args.part (sessions events) c.loop-place.place some_id (omega arith)), length-append (text (take c.loop-place.place (sessions events))) line, c.len.ensures.0, ap length (c.row_line-line.ensures some_id), c.loop-place.invariant.0)
 
 -- and that is within the buffer
 within : (c : After-len) → c.loop-place.end + c.len.result ≤ length c.args.out.now
@@ -26,12 +26,12 @@ within c =
     let events = events_in c.args.ledger.now in
     omega (arith, next_is c, rows_below events c.args.price c.args.part (sessions events) (c.loop-place.place + 1), c.requires.1)
 
-pub overflow-add-next : goal.overflow-add-next
-overflow-add-next c = let h = within c in search rules
+pub overflow_add-next : goal.overflow_add-next
+overflow_add-next c = let h = within c in search rules
 
-pub slice-bounds-copy-from-slice-end : goal.slice-bounds-copy-from-slice-end
-slice-bounds-copy-from-slice-end c =
-    let h = within (goal.at.slice-bounds-copy-from-slice-end c).After-len in
+pub slice_bounds-copy_from_slice-end : goal.slice_bounds-copy_from_slice-end
+slice_bounds-copy_from_slice-end c =
+    let h = within (goal.at.slice_bounds-copy_from_slice-end c).After-len in
     let k = c.loop-place.auto.out in
     search rules
 
@@ -42,14 +42,14 @@ loop-place-preserved c =
     let rows = rows_text events c.args.price c.args.part (take c.loop-place.place (sessions events)) in
     let line = part_text events c.args.price c.args.part (get_or (sessions events) c.loop-place.place some_id) in
     let start = take c.args.start c.args.out.now in
-    let copied : c.copy-from-slice.new.self ≡ line = c.copy-from-slice.ensures.after ∙ c.text.ensures ∙ c.row-line-line.ensures some_id in
+    let copied : c.copy_from_slice.new.self ≡ line = c.copy_from_slice.ensures.after ∙ c.text.ensures ∙ c.row_line-line.ensures some_id in
     let more = line_more events c.args.price c.args.part start (sessions events) c.loop-place.place some_id (omega arith) in (
       next_is at,
-      subst (λ l. Stands l c.args.out.now (put_mid c.loop-place.end (c.loop-place.end + c.len.result - c.loop-place.end) c.loop-place.out c.copy-from-slice.new.self)) more
-          (subst (λ t. Stands ((start ++ rows) ++ t) c.args.out.now (put_mid c.loop-place.end (c.loop-place.end + c.len.result - c.loop-place.end) c.loop-place.out c.copy-from-slice.new.self)) copied
-          (stands_copy (start ++ rows) c.args.out.now c.loop-place.out c.copy-from-slice.new.self c.loop-place.end (c.loop-place.end + c.len.result) c.loop-place.invariant.1
+      subst (λ l. Stands l c.args.out.now (put_mid c.loop-place.end (c.loop-place.end + c.len.result - c.loop-place.end) c.loop-place.out c.copy_from_slice.new.self)) more
+          (subst (λ t. Stands ((start ++ rows) ++ t) c.args.out.now (put_mid c.loop-place.end (c.loop-place.end + c.len.result - c.loop-place.end) c.loop-place.out c.copy_from_slice.new.self)) copied
+          (stands_copy (start ++ rows) c.args.out.now c.loop-place.out c.copy_from_slice.new.self c.loop-place.end (c.loop-place.end + c.len.result) c.loop-place.invariant.1
           (omega (arith, c.loop-place.invariant.0, length-append start rows, length-take c.args.start c.args.out.now, c.requires.1))
-          (omega (arith, c.len.ensures.0, ap length (c.copy-from-slice.ensures.after ∙ c.text.ensures)))
+          (omega (arith, c.len.ensures.0, ap length (c.copy_from_slice.ensures.after ∙ c.text.ensures)))
           (within at))),
     )
 
