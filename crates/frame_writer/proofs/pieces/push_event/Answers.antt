@@ -7,14 +7,14 @@ use Rattle.frame_writer.proofs.Laid.{event_laid, event_pieces, id_length}
 use Rattle.frame_writer.proofs.pieces.push_event.Goals as goal
 use Rattle.ids.specs.Ids.{id_text}
 
-pub push-id-requires : goal.push-id-requires
-push-id-requires c =
+pub push_id-requires : goal.push_id-requires
+push_id-requires c =
     let before = text_in c.args.draft.now in
     let number = decimal c.from.result in
     let short : length number ≤ 20 = length_most c.from.result (omega arith) in
-    let chain : Pushed before (codes "\"eventType\":\"" ∷ c.type-word.result.now ∷ codes "\",\"timestamp\":\"" ∷ c.args.stamp.now ∷ codes "\",\"triggerReason\":\"" ∷ c.reason-word.result.now ∷ codes "\",\"seqNo\":" ∷ number ∷ codes ",\"offline\":" ∷ c.flag-word.result.now ∷ codes ",\"transactionInfo\":{\"transactionId\":\"" ∷ []) (text_in c.push-text-10.new.self) =
-    then c.push-text.ensures.taken (then c.push-text-2.ensures.taken (then c.push-text-3.ensures.taken (then c.push-text-4.ensures.taken (then c.push-text-5.ensures.taken (then c.push-text-6.ensures.taken
-    (then c.push-text-7.ensures.taken (then c.push-plain.ensures.taken (then c.push-text-8.ensures.taken (then c.push-text-9.ensures.taken (then c.push-text-10.ensures.taken none)))))))))) in
+    let chain : Pushed before (codes "\"eventType\":\"" ∷ c.type_word.result.now ∷ codes "\",\"timestamp\":\"" ∷ c.args.stamp.now ∷ codes "\",\"triggerReason\":\"" ∷ c.reason_word.result.now ∷ codes "\",\"seqNo\":" ∷ number ∷ codes ",\"offline\":" ∷ c.flag_word.result.now ∷ codes ",\"transactionInfo\":{\"transactionId\":\"" ∷ []) (text_in c.push_text-10.new.self) =
+    then c.push_text.ensures.taken (then c.push_text-2.ensures.taken (then c.push_text-3.ensures.taken (then c.push_text-4.ensures.taken (then c.push_text-5.ensures.taken (then c.push_text-6.ensures.taken
+    (then c.push_text-7.ensures.taken (then c.push_plain.ensures.taken (then c.push_text-8.ensures.taken (then c.push_text-9.ensures.taken (then c.push_text-10.ensures.taken none)))))))))) in
     omega (arith, pushed_length chain (omega arith))
 
 pub returns : goal.returns
@@ -26,13 +26,13 @@ returns c =
     let id = id_text event.station event.session in
     let short : length number ≤ 20 = length_most c.from.result (omega arith) in
     let long : length id ≡ 14 = id_length event.station event.session in
-    let chain : Pushed before (event_pieces c.type-word.result.now stamp c.reason-word.result.now number c.flag-word.result.now id) (text_in c.push-text-11.new.self) =
-    then c.push-text.ensures.taken (then c.push-text-2.ensures.taken (then c.push-text-3.ensures.taken (then c.push-text-4.ensures.taken (then c.push-text-5.ensures.taken (then c.push-text-6.ensures.taken
-    (then c.push-text-7.ensures.taken (then c.push-plain.ensures.taken (then c.push-text-8.ensures.taken (then c.push-text-9.ensures.taken (then c.push-text-10.ensures.taken
-    (then (λ _. c.push-id.ensures) (then c.push-text-11.ensures.taken none)))))))))))) in
+    let chain : Pushed before (event_pieces c.type_word.result.now stamp c.reason_word.result.now number c.flag_word.result.now id) (text_in c.push_text-11.new.self) =
+    then c.push_text.ensures.taken (then c.push_text-2.ensures.taken (then c.push_text-3.ensures.taken (then c.push_text-4.ensures.taken (then c.push_text-5.ensures.taken (then c.push_text-6.ensures.taken
+    (then c.push_text-7.ensures.taken (then c.push_plain.ensures.taken (then c.push_text-8.ensures.taken (then c.push_text-9.ensures.taken (then c.push_text-10.ensures.taken
+    (then (λ _. c.push_id.ensures) (then c.push_text-11.ensures.taken none)))))))))))) in
     record {
       text = pushed_text chain (omega arith)
-          ∙ (λ i. before ++ whole (event_pieces (c.type-word.ensures.text i) stamp (c.reason-word.ensures.text i) (decimal (c.from.ensures i)) (c.flag-word.ensures.text i) id))
+          ∙ (λ i. before ++ whole (event_pieces (c.type_word.ensures.text i) stamp (c.reason_word.ensures.text i) (decimal (c.from.ensures i)) (c.flag_word.ensures.text i) id))
           ∙ ap (λ l. before ++ l) (event_laid stamp event);
       long = omega (arith, pushed_length chain (omega arith));
     }

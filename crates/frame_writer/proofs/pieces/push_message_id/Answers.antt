@@ -13,7 +13,7 @@ returns c =
     let before = text_in c.args.draft.now in
     let event = c.args.transmission.event in
     let id = id_text event.station event.session in
-    let chain : Pushed before (id ∷ (45 ∷ []) ∷ fixed 4 c.from.result ∷ (45 ∷ []) ∷ fixed 2 c.from-2.result ∷ []) (text_in c.push-fixed-2.new.self) =
-    then (λ _. c.push-id.ensures) (then c.push.ensures.taken (then c.push-fixed.ensures.taken (then c.push-2.ensures.taken (then c.push-fixed-2.ensures.taken none)))) in
+    let chain : Pushed before (id ∷ (45 ∷ []) ∷ fixed 4 c.from.result ∷ (45 ∷ []) ∷ fixed 2 c.from-2.result ∷ []) (text_in c.push_fixed-2.new.self) =
+    then (λ _. c.push_id.ensures) (then c.push.ensures.taken (then c.push_fixed.ensures.taken (then c.push-2.ensures.taken (then c.push_fixed-2.ensures.taken none)))) in
     pushed_text chain (omega (arith, id_length event.station event.session, length_fixed 4 c.from.result, length_fixed 2 c.from-2.result))
     ∙ (λ i. before ++ (id ++ (45 ∷ (fixed 4 (c.from.ensures i) ++ (45 ∷ append-nil (fixed 2 (c.from-2.ensures i)) i)))))

@@ -11,8 +11,8 @@ returns c =
     let before = text_in c.args.draft.now in
     let stamp = c.args.stamp.now in
     let wh = c.args.wh in
-    let chain : Pushed before (meter_pieces stamp (decimal wh)) (text_in c.push-text-4.new.self) =
-    then c.push-text.ensures.taken (then c.push-text-2.ensures.taken (then c.push-text-3.ensures.taken (then c.push-plain.ensures.taken (then c.push-text-4.ensures.taken none)))) in
+    let chain : Pushed before (meter_pieces stamp (decimal wh)) (text_in c.push_text-4.new.self) =
+    then c.push_text.ensures.taken (then c.push_text-2.ensures.taken (then c.push_text-3.ensures.taken (then c.push_plain.ensures.taken (then c.push_text-4.ensures.taken none)))) in
     record {
       text = pushed_text chain (omega (arith, length_most wh (omega arith))) ∙ ap (λ l. before ++ l) (meter_laid stamp wh);
       long = omega (arith, length_most wh (omega arith), pushed_length chain (omega (arith, length_most wh (omega arith))));

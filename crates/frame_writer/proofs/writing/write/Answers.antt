@@ -11,13 +11,13 @@ use Rattle.std.proofs.lemmas.List.{take_at}
 
 -- the draft holds the written form
 form : (c : After-len-size) → WrittenForm c.args.transmission (text_in c.frame-draft.result)
-form c = record { stamp = c.in-ok-stamp.stamp; denotes = c.in-ok-stamp.ensures.denotes.1; is = c.frame-draft.ensures }
+form c = record { stamp = c.in_ok-stamp.stamp; denotes = c.in_ok-stamp.ensures.denotes.1; is = c.frame-draft.ensures }
 
 pub returns-then-size-out : goal.returns-then-size-out
 returns-then-size-out c =
     let bytes = text_in c.frame-draft.result in
     let is = form (goal.at.returns-then-size-out c).After-len-size in
-    (refl, inr (refl, record { lawful = c.if-not-is-lawful.ensures.0 refl; bytes = bytes; form = one_form c.args.transmission bytes is; short = omega (arith, c.len-size.ensures.value) }))
+    (refl, inr (refl, record { lawful = c.if-not-is_lawful.ensures.0 refl; bytes = bytes; form = one_form c.args.transmission bytes is; short = omega (arith, c.len-size.ensures.value) }))
 
 pub returns : goal.returns
 returns c =
@@ -26,11 +26,11 @@ returns c =
     let before = c.args.out.now in
     let size = c.len-size.result in
     let is = form (goal.at.returns c).After-len-size in
-    let lawful : LawfulTransmission t = c.if-not-is-lawful.ensures.0 refl in
+    let lawful : LawfulTransmission t = c.if-not-is_lawful.ensures.0 refl in
     let long : size ≡ length bytes = c.len-size.ensures.value in
-    let copied : c.copy-from-slice.new.self ≡ bytes = c.copy-from-slice.ensures.after ∙ c.text.ensures in
+    let copied : c.copy_from_slice.new.self ≡ bytes = c.copy_from_slice.ensures.after ∙ c.text.ensures in
     let behind : post_of 0 (size - 0) before ≡ drop (length bytes) before = Post-is 0 size before (omega arith) ∙ ap (λ n. drop n before) long in
-    let after = c.copy-from-slice.new.self ++ post_of 0 (size - 0) before in
+    let after = c.copy_from_slice.new.self ++ post_of 0 (size - 0) before in
     let written : after ≡ bytes ++ drop (length bytes) before = ap₂ (λ a b. a ++ b) copied behind in
     let front : take size after ≡ bytes = ap (take size) written ∙ take_at bytes (drop (length bytes) before) size (sym long) in
     let frame : Frame (take size after) t = subst (λ l. Frame l t) (sym front) (form_frame t bytes lawful is (omega (arith, c.len-size.ensures.bound))) in

@@ -12,8 +12,8 @@ loop-place-preserved c =
     let more = count_more (billed events) (sessions events) c.loop-place.place c.loop-place.count some_id (omega arith) c.loop-place.invariant.0 in
     let one : (b : Bool) → c.is_billed.result ≡ b → cond {A = ℕ} (billed events (get_or (sessions events) c.loop-place.place some_id)) 1 0 ≡ cond b 1 0 = λ b e. ap (λ x. cond {A = ℕ} x 1 0) (sym (c.is_billed.ensures some_id) ∙ e) in
     elim c.if-is_billed.branch [
-      | then-is_billed w ↦ (omega (arith, w.count_is, one _ w.if-is_billed.true), omega (arith, w.count_is))
-      | else-is_billed w ↦ (omega (arith, w.count_is, one _ w.if-is_billed.false), omega (arith, w.count_is))
+      | then-is_billed w ↦ (omega (arith, w.count-is, one _ w.if-is_billed.true), omega (arith, w.count-is))
+      | else-is_billed w ↦ (omega (arith, w.count-is, one _ w.if-is_billed.false), omega (arith, w.count-is))
     ]
 
 pub returns : goal.returns

@@ -15,7 +15,7 @@ long c = ap length (digits c) ∙ length_fixed c.args.width c.args.number
 pub invariant_of-self : goal.invariant_of-self
 invariant_of-self c =
     let self = c.args.self.now in
-    ((c.requires, put_length self.bytes self.len c.args.width c.write_fixed.new.out (omega arith) (long c) ∙ self.fits.1), tt)
+    record { fits = (c.requires, put_length self.bytes self.len c.args.width c.write_fixed.new.out (omega arith) (long c) ∙ self.fits.1) }
 
 pub returns : goal.returns
 returns c =

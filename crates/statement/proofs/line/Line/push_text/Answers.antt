@@ -6,7 +6,7 @@ pub invariant_of-self : goal.invariant_of-self
 invariant_of-self c =
     let self = c.args.self.now in
     let long : length c.copy_from_slice.new.self ≡ length c.args.text.now = ap length c.copy_from_slice.ensures.after in
-    ((c.requires, put_length self.bytes self.len (length c.args.text.now) c.copy_from_slice.new.self (omega arith) long ∙ self.fits.1), tt)
+    record { fits = (c.requires, put_length self.bytes self.len (length c.args.text.now) c.copy_from_slice.new.self (omega arith) long ∙ self.fits.1) }
 
 pub returns : goal.returns
 returns c =
