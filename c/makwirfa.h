@@ -1,7 +1,7 @@
 /*
  * Makwirfa for C: what an invoicing package calls.
  *
- * Link the static library that `rt staticlib invoicing` writes to
+ * Link the static library that `tools/build invoicing` writes to
  * target/staticlib/libinvoicing.a. The functions allocate nothing, keep no
  * state, and may be called from any thread.
  */
