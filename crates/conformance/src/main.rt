@@ -12,6 +12,7 @@ mod verdict;
 use anyhow::anyhow;
 use std::env;
 use std::io::{BufWriter, Read, Write};
+use std::process::ExitCode;
 use usage::HELP;
 
 fn judge_table(rt: &HostRuntime) -> anyhow::Result<()> {
@@ -38,10 +39,13 @@ fn run(rt: &HostRuntime) -> anyhow::Result<()> {
     }
 }
 
-fn main(rt: HostRuntime) -> anyhow::Result<()> {
-    let result = run(&rt);
-    if let Err(error) = &result {
-        eprintln!(rt; "conformance: {error}")?;
+// The message of an error stands once on standard error, and the status is 1.
+fn main(rt: HostRuntime) -> ExitCode {
+    match run(&rt) {
+        Ok(()) => ExitCode::SUCCESS,
+        Err(error) => {
+            let _ = eprintln!(rt; "conformance: {error}");
+            ExitCode::FAILURE
+        }
     }
-    result
 }

@@ -10,6 +10,7 @@ use anyhow::anyhow;
 use std::alloc::Global;
 use std::env;
 use std::io::{BufWriter, Read, Write};
+use std::process::ExitCode;
 use usage::{HELP, bad_price};
 
 // All of standard input.
@@ -68,10 +69,13 @@ fn run(rt: &HostRuntime) -> anyhow::Result<()> {
     }
 }
 
-fn main(rt: HostRuntime) -> anyhow::Result<()> {
-    let result = run(&rt);
-    if let Err(error) = &result {
-        eprintln!(rt; "desk: {error}")?;
+// The message of an error stands once on standard error, and the status is 1.
+fn main(rt: HostRuntime) -> ExitCode {
+    match run(&rt) {
+        Ok(()) => ExitCode::SUCCESS,
+        Err(error) => {
+            let _ = eprintln!(rt; "desk: {error}");
+            ExitCode::FAILURE
+        }
     }
-    result
 }
