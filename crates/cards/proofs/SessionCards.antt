@@ -7,17 +7,15 @@ use Rattle.statement.specs.Statement.{statement_bytes}
 use Rattle.decimal.specs.Decimal.{fixed}
 use Rattle.event.specs.Lawful.{Lawful}
 use Rattle.event.specs.declared.events.Event.{Event}
-use Rattle.event.specs.declared.events.EventType.{EventType}
 use Rattle.event.specs.declared.events.EventType.TheVariants.{Started, Updated, Ended}
 use Rattle.ledger.proofs.Deciding.{many, taken}
-use Rattle.ledger.specs.Held.{any, belongs, held, known, runs_of, session_of, sessions}
+use Rattle.ledger.specs.Held.{any, belongs, held, runs_of, session_of, sessions}
 use Rattle.ledger.specs.Kept.{most_events, most_rows}
 use Rattle.ledger.specs.Order.{disordered, past_end}
-use Rattle.ledger.specs.Take.{ManyRuns, Takes}
 use Rattle.ledger.specs.declared.taken.Taken.TheVariants.{Held}
 use Rattle.runs.specs.Stretches.{most_runs}
 use Rattle.refusal.specs.declared.Refusal.TheVariants.{TooManyRuns}
-use Rattle.cards.specs.Sessions.{AllHeld, SessionCards, Taking, event_of, session_3, sixteen_runs, start, two_sessions, update}
+use Rattle.cards.specs.Sessions.{AllHeld, SessionCards, Taking, event_of, sixteen_runs, start, two_sessions, update}
 
 -- the five events of the two sessions, and updates, are lawful
 updated_kind : Updated ≡ Started → ⊥

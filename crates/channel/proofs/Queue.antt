@@ -1,5 +1,5 @@
 -- What waits in a ring after a place was written, or the first moved on. Assumes nothing.
-use Rattle.std.proofs.Common.{◌≡◌, ℕ, zero, suc, ◌+◌, ◌-◌, ◌<◌, ◌≤◌, min, ◌⊎◌, List, [], ◌∷◌, ◌++◌, length, get_or, take, drop, set, sym, refl, ap, ◌∙◌, subst, inl, inr, append_assoc, append-nil, add-one, arith, length-append, length-drop, length-set, take-append-drop, length-take, drop-cons, get_or-take, take-suc, take-take, drop-set-lt}
+use Rattle.std.proofs.Common.{◌≡◌, ℕ, zero, suc, ◌+◌, ◌-◌, ◌<◌, ◌≤◌, min, ◌⊎◌, List, [], ◌∷◌, ◌++◌, length, get_or, take, drop, set, sym, refl, ap, ◌∙◌, subst, inl, inr, append_assoc, append-nil, arith, length-append, length-drop, take-append-drop, length-take, drop-cons, get_or-take, take-suc, take-take, drop-set-lt}
 use lib.Seq.{drop-append-le, take-append-add, take-append_seam, take-set-lt, take-set-le, drop-set-add, set-append_left, take-append-le, take-length, drop-length}
 use Rattle.std.proofs.lemmas.List.{drop_all, set-append_right, take_all, take_more_set}
 use Rattle.channel.specs.Places.{most_places, places, queue, turned}

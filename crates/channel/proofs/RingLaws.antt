@@ -1,7 +1,7 @@
 -- A ring's own rules keep the laws of every channel. Assumes nothing.
-use Rattle.std.proofs.Common.{◌≡◌, ℕ, ◌+◌, ◌-◌, ◌<◌, ◌≤◌, min, ◌⊎◌, List, [], ◌∷◌, ◌++◌, length, Some, None, Ok, Err, Option, Result, sym, refl, ap, ◌∙◌, subst, inl, inr, arith}
+use Rattle.std.proofs.Common.{◌≡◌, ◌+◌, length, Some, None, Ok, Err, Option, Result, sym, refl, ap, ◌∙◌, subst, inl, inr, arith}
 use Rattle.std.proofs.lemmas.List.{length_push}
-use Rattle.channel.specs.Laws.{Accepted, Receives, Refused, Sends}
+use Rattle.channel.specs.Laws.{Receives, Sends}
 use Rattle.channel.specs.Members.{In}
 use Rattle.channel.specs.Ring.{Contents, RingReceives, RingSends, ring_meaning}
 use Rattle.channel.specs.declared.faults.Full.{Full}

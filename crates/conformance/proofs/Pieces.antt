@@ -1,6 +1,6 @@
 -- What a written text begins with, and what it stands for, piece by piece.
-use Rattle.std.proofs.Common.{◌≡◌, ℕ, ◌+◌, ◌-◌, ◌<◌, ◌≤◌, true, false, eqb, ◌⊎◌, List, [], ◌∷◌, ◌++◌, length, get_or, drop, replicate, IfSome, Some, None, Option, sym, refl, ap, ◌∙◌, subst, inl, inr, append_assoc, append-nil, arith, true-eqb, false-eqb, MatchOption}
-use Rattle.conformance.specs.Encoding.{Gains, HexDigit, Hexadecimal, IsPiece, Itself, Plain, Repeated, Wide, Writes, bytes_of}
+use Rattle.std.proofs.Common.{◌≡◌, ℕ, ◌+◌, ◌<◌, true, false, eqb, List, [], ◌∷◌, ◌++◌, length, drop, replicate, IfSome, Some, None, Option, sym, refl, ap, ◌∙◌, subst, inl, inr, append_assoc, append-nil, arith, true-eqb, false-eqb, MatchOption}
+use Rattle.conformance.specs.Encoding.{Gains, HexDigit, Hexadecimal, IsPiece, Itself, Repeated, Wide, Writes, bytes_of}
 use Rattle.conformance.specs.Encoding.Writes.{nothing, piece}
 use Rattle.conformance.specs.declared.piece.Piece.{Piece}
 use Rattle.std.proofs.lemmas.List.{replicate_more}

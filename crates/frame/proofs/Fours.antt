@@ -1,5 +1,5 @@
 -- Counting an array's values as they are taken off. Assumes nothing.
-use Rattle.std.proofs.Common.{◌≡◌, ℕ, suc, ◌+◌, ◌≤◌, true, false, List, is_some, Some, None, Option, sym, refl, ap, ◌∙◌, subst, arith, Bor}
+use Rattle.std.proofs.Common.{◌≡◌, ℕ, suc, ◌≤◌, true, false, List, is_some, Some, None, Option, sym, ap, ◌∙◌, subst, arith, Bor}
 use Rattle.frame.proofs.Fronts.{front_in}
 use Rattle.std.proofs.lemmas.Bool.{false≢true, true≢false}
 use Rattle.frame.specs.Call.{NotFour, array_of_four}

@@ -1,11 +1,11 @@
 -- A look for a name, member by member. Assumes nothing.
-use Rattle.std.proofs.Common.{◌≡◌, ℕ, suc, ◌+◌, ◌<◌, ◌≤◌, Bool, true, false, cond, List, [], ◌∷◌, ◌++◌, length, drop, Some, None, Option, sym, refl, ap, ◌∙◌, subst, arith, Bor, MatchOption}
+use Rattle.std.proofs.Common.{◌≡◌, ℕ, suc, ◌+◌, Bool, true, false, List, [], ◌∷◌, length, drop, Some, None, Option, refl, ap, ◌∙◌, arith, Bor, MatchOption}
 use Rattle.std.proofs.lemmas.Slice.Eq.{bytes_eq-Decides}
 use Rattle.std.proofs.lemmas.List.{append_cancel_right}
 use Rattle.std.proofs.lemmas.Bool.{cond-false, cond-true}
 use Rattle.frame.specs.Members.{count, under}
 use Rattle.frame.specs.Slots.{SoFar, added}
-use Rattle.frame.specs.Walks.{Ahead, Taken, quoted}
+use Rattle.frame.specs.Walks.{Ahead, quoted}
 use Rattle.frame.specs.declared.slot.Slot.{Slot}
 use Rattle.frame.specs.declared.slot.Slot.TheVariants.{Missing, Once, Twice}
 use Rattle.json_text.specs.Grammar.{Json, Membs, Value}

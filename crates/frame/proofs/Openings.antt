@@ -1,8 +1,8 @@
 -- A value's kind by its first byte. Assumes nothing.
-use Rattle.std.proofs.Common.{◌≡◌, ℕ, Bool, true, false, cond, not, ◌&&◌, ◌||◌, eqb, leb, List, [], ◌∷◌, ◌++◌, get_or, sym, refl, ap, ◌∙◌, subst, arith}
+use Rattle.std.proofs.Common.{◌≡◌, ℕ, Bool, true, ◌||◌, eqb, List, ◌++◌, get_or, refl, arith}
 use Rattle.std.proofs.lemmas.Bool.{false≢true}
 use Rattle.std.proofs.lemmas.Bool.Decides.{nat_tests}
-use Rattle.json_text.specs.Grammar.{Elems, Json, Membs, Minus, Number, Value, Whole, digit, nonzero}
+use Rattle.json_text.specs.Grammar.{Elems, Json, Membs, Number, Value, digit}
 use Rattle.json_text.specs.Grammar.Json.{jnull, jtrue, jfalse, jnumber, jstring, jarray, jobject}
 use Rattle.json_text.specs.Grammar.Minus.{no_minus, minus}
 use Rattle.json_text.specs.Grammar.Number.{number}

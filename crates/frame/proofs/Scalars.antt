@@ -1,11 +1,11 @@
 -- Strings, numbers and objects by their bytes. Assumes nothing.
-use Rattle.std.proofs.Common.{◌≡◌, ℕ, suc, ◌+◌, ◌-◌, ◌<◌, ◌≤◌, Bool, true, false, eqb, List, [], ◌∷◌, ◌++◌, length, get_or, take, drop, codes, MatchBool, sym, refl, ap, ◌∙◌, subst, append-nil, arith, length-append}
+use Rattle.std.proofs.Common.{◌≡◌, ℕ, ◌-◌, ◌<◌, Bool, true, false, eqb, List, [], ◌∷◌, length, get_or, take, drop, codes, MatchBool, sym, refl, ap, ◌∙◌, subst, append-nil, arith, length-append}
 use Rattle.frame.specs.Walks.{quoted}
 use Rattle.frame.proofs.Looks.{unquoted}
 use Rattle.frame.proofs.Openings.{object_by, opening, opens, string_by}
-use Rattle.json_text.specs.Grammar.{Json, Membs, Number, Value}
+use Rattle.json_text.specs.Grammar.{Json, Membs, Value}
 use Rattle.json_text.specs.Grammar.Json.{jnull, jtrue, jfalse, jnumber, jstring, jarray, jobject}
-use Rattle.json_text.specs.Grammar.Value.{is_null, is_true, is_false, is_number, is_string, empty_array, is_array, empty_object, is_object}
+use Rattle.json_text.specs.Grammar.Value.{is_number, is_string, empty_object, is_object}
 use Rattle.std.proofs.lemmas.List.{take_at}
 use Rattle.std.proofs.lemmas.Bool.{eqb-false, eqb-true, false≢true}
 

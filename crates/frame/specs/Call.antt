@@ -1,8 +1,8 @@
 -- The array of four that a call of TransactionEvent is. Assumes nothing.
-use Rattle.std.specs.Prelude.{◌≡◌, ℕ, List, [], ◌∷◌, codes, ◌≢◌}
+use Rattle.std.specs.Prelude.{◌≡◌, ℕ, List, codes, ◌≢◌}
 use Rattle.frame.specs.declared.call.Four.{Four}
 use Rattle.frame.specs.declared.call.Parts.{Parts}
-use Rattle.json_text.specs.Grammar.{Elems, Json, Membs, Value}
+use Rattle.json_text.specs.Grammar.{Json, Membs, Value}
 use Rattle.json_text.specs.Grammar.Elems.{no_elem, elem}
 use Rattle.json_text.specs.Grammar.Json.{jarray, jnumber, jobject, jstring}
 

@@ -1,5 +1,5 @@
 -- Which value begins with which byte. Assumes nothing.
-use Rattle.std.specs.Prelude.{◌≡◌, ℕ, Bool, ◌||◌, List, ◌++◌}
+use Rattle.std.specs.Prelude.{◌≡◌, ℕ, List, ◌++◌}
 use Rattle.json_text.specs.Grammar.{Json, Value, White}
 
 -- after white space the bytes begin with the value, whatever follows it

@@ -1,5 +1,5 @@
 -- One step through the members of an object. Assumes nothing.
-use Rattle.std.specs.Prelude.{◌≡◌, ℕ, ◌<◌, List, [], ◌∷◌, ◌++◌, length, Option, MatchOption, ◌≢◌}
+use Rattle.std.specs.Prelude.{◌≡◌, ℕ, List, [], ◌∷◌, ◌++◌, Option, MatchOption, ◌≢◌}
 use Rattle.std.specs.Borrow.{Bor}
 use Rattle.json_text.specs.Grammar.{Elements, Elems, Json, Members, Membs, Value}
 use Rattle.json_text.specs.Grammar.Elems.{no_elem, elem}

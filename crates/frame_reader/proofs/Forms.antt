@@ -1,5 +1,5 @@
 -- Words, numbers and literals by their bytes. Assumes nothing.
-use Rattle.std.proofs.Common.{◌≡◌, ℕ, ◌+◌, ◌-◌, ◌^◌, ◌<◌, ◌≤◌, min, Bool, true, false, ◌&&◌, ◌||◌, eqb, leb, List, [], ◌∷◌, ◌++◌, length, get_or, take, Ok, Err, codes, decimal, Result, sym, refl, ap, ◌∙◌, subst, arith, length-append, MatchOption, MatchResult}
+use Rattle.std.proofs.Common.{◌≡◌, ℕ, ◌-◌, ◌^◌, ◌<◌, ◌≤◌, min, Bool, true, false, List, [], ◌∷◌, ◌++◌, length, get_or, take, Ok, Err, codes, decimal, Result, sym, refl, ap, ◌∙◌, subst, arith, length-append, MatchOption, MatchResult}
 use Rattle.calendar.specs.Calendar.{Denotes, NoSecond}
 use Rattle.decimal.proofs.Plain.{decimal_plain, plain_decimal, value_plain}
 use Rattle.decimal.proofs.Widths.{length_fixed}

@@ -1,5 +1,5 @@
 -- The front of what is left of an object or an array. Assumes nothing.
-use Rattle.std.proofs.Common.{◌≡◌, ℕ, suc, ◌+◌, ◌<◌, ◌≤◌, Bool, true, false, cond, eqb, ◌⊎◌, List, [], ◌∷◌, ◌++◌, length, get_or, drop, IfSome, Some, None, Option, sym, refl, ap, ◌∙◌, subst, inl, inr, ⊎_elim, append_assoc, arith, Bor, MatchOption}
+use Rattle.std.proofs.Common.{◌≡◌, ℕ, suc, ◌<◌, ◌≤◌, Bool, true, false, cond, eqb, ◌⊎◌, List, [], ◌∷◌, ◌++◌, length, get_or, drop, IfSome, Some, None, Option, sym, refl, ap, ◌∙◌, subst, inl, inr, ⊎_elim, append_assoc, arith, Bor, MatchOption}
 use Rattle.frame_reader.specs.Kinds.{At}
 use Rattle.frame_reader.specs.Walks.{AheadIn, Begins, Behind, BehindIn, FirstObject, LeftIn, NoObject, Opened}
 use Rattle.frame_reader.proofs.Openings.{array_by, object_by, opening, opens}

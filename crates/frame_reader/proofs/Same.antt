@@ -1,5 +1,5 @@
 -- A text is a frame of one transmission at most, and of none where it is refused. Assumes nothing.
-use Rattle.std.proofs.Common.{◌≡◌, ℕ, ◌+◌, ◌-◌, ◌^◌, ◌<◌, ◌≤◌, Bool, true, false, cond, eqb, ◌⊎◌, List, [], length, get_or, IsErrAnd, Some, None, Ok, Err, codes, decimal, Option, Result, sym, refl, ap, ◌∙◌, subst, inl, inr, arith, MatchOption}
+use Rattle.std.proofs.Common.{◌≡◌, ℕ, ◌≤◌, Bool, true, false, cond, eqb, ◌⊎◌, List, [], length, get_or, IsErrAnd, Some, None, Ok, Err, codes, decimal, Option, Result, sym, refl, ap, ◌∙◌, subst, inl, inr, arith, MatchOption}
 use Rattle.calendar.proofs.Denoted.{reads_back}
 use Rattle.calendar.specs.Calendar.{Denotes}
 use Rattle.decimal.proofs.Plain.{value_plain}
@@ -11,7 +11,7 @@ use Rattle.event.specs.declared.events.Transmission.{Transmission}
 use Rattle.event.specs.declared.events.TriggerReason.{TriggerReason}
 use Rattle.event.specs.declared.events.TriggerReason.TheVariants.{CablePluggedIn, MeterValuePeriodic, EVDeparted}
 use Rattle.frame_reader.specs.Call.{Call, NoCall}
-use Rattle.frame_reader.specs.Frame.{Called, Frame, Named, Parsed, Reads, ReadsAs, Refused, Sampled, Says, Tells, Timed, flag, longest, reason_text, type_text}
+use Rattle.frame_reader.specs.Frame.{Called, Frame, Named, Parsed, Reads, ReadsAs, Refused, Says, Tells, Timed, flag, longest, reason_text, type_text}
 use Rattle.frame_reader.specs.Frame.Refused.{too_long, too_deep, not_json, not_a_frame, bad_members, bad_value}
 use Rattle.frame_reader.specs.Kinds.{At}
 use Rattle.frame_reader.specs.Members.{element_of, element_under, under}

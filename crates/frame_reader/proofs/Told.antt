@@ -2,12 +2,10 @@
 use Rattle.std.proofs.Common.{◌≡◌, ℕ, ◌≤◌, List, Some, None, codes, decimal, Option, sym, refl, ap, ◌∙◌, subst, MatchOption}
 use Rattle.event.specs.Lawful.{largest_register}
 use Rattle.frame_reader.specs.Fields.{MeterOf, NoSample, SampleIn}
-use Rattle.frame_reader.specs.Frame.{Sampled}
 use Rattle.frame_reader.specs.Members.{element_of, element_under, under}
 use Rattle.frame_reader.specs.Reading.{MeasuresRegister, NoRegister, NoSampled, RegisterIs, RegisterTold, SampleTells, SmallRegister}
 use Rattle.frame_reader.specs.Slots.{Under}
 use Rattle.frame_reader.specs.Values.{NoNumber}
-use Rattle.frame_reader.specs.declared.fields.Meter.{Meter}
 use Rattle.frame_reader.specs.declared.fields.Meter.TheVariants as meter
 use Rattle.frame_reader.specs.declared.fields.Sample.{Sample}
 use Rattle.frame_reader.proofs.Onlys.{not_both, same_some}

@@ -1,5 +1,5 @@
 -- What a frame of a transmission is, by the tree of its text. Assumes nothing.
-use Rattle.std.specs.Prelude.{◌≡◌, ℕ, ◌<◌, ◌≤◌, Bool, true, false, List, ◌∷◌, ◌++◌, length, IfSome, Some, None, Ok, codes, decimal, Option, Result, MatchOption, MatchResult}
+use Rattle.std.specs.Prelude.{◌≡◌, ℕ, ◌<◌, ◌≤◌, Bool, true, false, List, length, IfSome, Some, None, Ok, codes, decimal, Result, MatchOption, MatchResult}
 use Rattle.calendar.specs.Calendar.{Denotes}
 use Rattle.event.specs.Lawful.{LawfulTransmission}
 use Rattle.event.specs.declared.events.Event.{Event}

@@ -1,5 +1,5 @@
 -- What the values of a payload tell of its event. Assumes nothing.
-use Rattle.std.specs.Prelude.{◌≡◌, ℕ, ◌≤◌, Bool, false, List, IfSome, Some, None, codes, decimal, Option, MatchOption}
+use Rattle.std.specs.Prelude.{◌≡◌, ℕ, ◌≤◌, Bool, false, IfSome, Some, None, codes, decimal, Option, MatchOption}
 use Rattle.event.specs.Lawful.{Lawful, largest_register}
 use Rattle.event.specs.declared.events.Event.{Event}
 use Rattle.frame_reader.specs.Frame.{Sampled, Tells, flag, measurand_text}

@@ -1,11 +1,11 @@
 -- The hall's channel keeps the laws of every channel under each command. Assumes nothing.
-use Rattle.std.proofs.Common.{◌≡◌, ℕ, ◌+◌, ◌-◌, ◌/◌, ◌<◌, ◌≤◌, ◌⊎◌, List, [], ◌∷◌, ◌++◌, length, drop, IfSome, Some, None, Ok, Err, Option, Result, sym, refl, ap, ◌∙◌, subst, inl, inr, ⊎_elim, arith, length-drop}
+use Rattle.std.proofs.Common.{◌≡◌, ℕ, ◌+◌, ◌-◌, ◌<◌, ◌≤◌, ◌⊎◌, List, [], ◌∷◌, length, drop, IfSome, Some, None, Ok, Err, Option, Result, sym, refl, ap, ◌∙◌, subst, inl, inr, ⊎_elim, arith, length-drop}
 use Rattle.channel.specs.Laws.{Receives, Sends}
 use Rattle.channel.specs.Members.{In}
 use Rattle.channel.specs.Places.{turned}
 use Rattle.channel.specs.declared.faults.Full.{Full}
 use Rattle.channel.proofs.Queue.{length_queue}
-use Rattle.channel.proofs.Members.{in_append, in_drop, in_push}
+use Rattle.channel.proofs.Members.{in_drop, in_push}
 use Rattle.hall.specs.Hall.{Carried, Gives, HallReceives, HallSends, after_send, carried, free_in, free_under, hall_meaning, overtaking, then, with_waiting}
 use Rattle.hall.specs.declared.carrier.Hall.{Hall}
 use Rattle.hall.specs.declared.command.Command.{Command}

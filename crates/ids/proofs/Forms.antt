@@ -1,9 +1,9 @@
 -- The parts of a transaction id by their places. Assumes nothing.
-use Rattle.std.proofs.Common.{◌≡◌, ℕ, ◌+◌, ◌-◌, ◌^◌, ◌<◌, ◌≤◌, List, [], ◌∷◌, ◌++◌, length, get_or, take, drop, sym, refl, ap, ◌∙◌, subst, arith, length-append, length-drop, take-append-drop, length-take, drop-cons}
+use Rattle.std.proofs.Common.{◌≡◌, ℕ, ◌≤◌, List, [], ◌∷◌, ◌++◌, length, get_or, take, drop, sym, refl, ap, ◌∙◌, subst, arith, length-append, length-drop, take-append-drop, length-take, drop-cons}
 use Rattle.std.proofs.lemmas.List.{take_at, drop_at, get_or_at, append_assoc}
 use Rattle.decimal.proofs.Widths.{length_fixed, text_of_width, width_of_text}
 use Rattle.decimal.specs.Decimal.{FixedText, fixed}
-use Rattle.ids.specs.Ids.{Written, id_text}
+use Rattle.ids.specs.Ids.{Written}
 
 -- the first five bytes one by one
 pub take_five : (text : List ℕ) → 5 ≤ length text → get_or text 0 0 ∷ get_or text 1 0 ∷ get_or text 2 0 ∷ get_or text 3 0 ∷ get_or text 4 0 ∷ [] ≡ take 5 text

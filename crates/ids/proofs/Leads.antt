@@ -1,5 +1,5 @@
 -- A number and a hyphen at the front of bytes, by their places. Assumes nothing.
-use Rattle.std.proofs.Common.{◌≡◌, ℕ, zero, suc, ◌+◌, ◌-◌, ◌^◌, ◌<◌, ◌≤◌, List, [], ◌∷◌, ◌++◌, length, get_or, take, drop, sym, refl, ap, ◌∙◌, subst, arith, length-append, length-drop, take-append-drop, length-take, drop-cons}
+use Rattle.std.proofs.Common.{◌≡◌, ℕ, zero, suc, ◌+◌, ◌<◌, ◌≤◌, List, [], ◌∷◌, ◌++◌, length, get_or, take, drop, sym, refl, ap, ◌∙◌, subst, arith, length-append, take-append-drop, length-take, drop-cons}
 use Rattle.std.proofs.lemmas.List.{take_at, drop_at, get_or_at, append_assoc}
 use Rattle.decimal.proofs.Widths.{length_fixed, same_from_fixed, text_of_width, value_from_text, width_of_text}
 use Rattle.decimal.specs.Decimal.{FixedText, fixed}

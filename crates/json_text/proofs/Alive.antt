@@ -1,11 +1,11 @@
 -- What the machine has not refused is the beginning of a text, and only that; its open arrays and objects are the depth. Assumes nothing.
-use Rattle.std.proofs.Common.{◌≡◌, ℕ, suc, pred, ◌+◌, Bool, true, false, cond, ◌&&◌, ◌||◌, eqb, leb, ◌⊎◌, List, [], ◌∷◌, ◌++◌, length, sym, refl, ap, ◌∙◌, subst, subst₂, inl, inr, ⊎_elim, append_assoc, append-nil, arith}
+use Rattle.std.proofs.Common.{◌≡◌, ℕ, Bool, true, false, cond, ◌&&◌, eqb, leb, List, [], ◌∷◌, ◌++◌, length, sym, refl, ap, ◌∙◌, subst, subst₂, arith}
 use Rattle.std.proofs.lemmas.Bool.{and_parts, cond-true, eq-eqb, eqb-true, false≢true}
 use Rattle.std.proofs.lemmas.Bool.Decides.{nat_tests}
 use Rattle.json_text.specs.Beginnings.{Begins, Spot, deeper, depth, depth_from, past}
 use Rattle.json_text.specs.Beginnings.Spot.{outside, inside, escaped as behind}
 use Rattle.json_text.specs.Grammar.{digit, escapable, hex, nonzero, plain, power, sign, white}
-use Rattle.json_text.specs.Machine.{Kind, Mode, State, accepts, after_whole, begin, closed, first_step, go_on, literal_step, move, none_open, opened_step, run, start, step}
+use Rattle.json_text.specs.Machine.{Kind, Mode, State, accepts, after_whole, begin, closed, go_on, literal_step, move, run, start}
 use Rattle.json_text.specs.Machine.Kind.{arr, obj}
 use Rattle.json_text.specs.Machine.Mode.{value, first, name, opened, colon, after, chars, escaped, hex1, hex2, hex3, hex4, literal, minused, zeroed, whole, pointed, places, powered, signed, scaled}
 use Rattle.json_text.specs.Machine.State.{dead, live}

@@ -1,8 +1,8 @@
 -- The machine accepts every text of the grammar. Assumes nothing.
-use Rattle.std.proofs.Common.{◌≡◌, ℕ, Bool, true, false, cond, not, ◌&&◌, ◌||◌, eqb, leb, ◌⊎◌, List, [], ◌∷◌, ◌++◌, sym, refl, ap, ◌∙◌, subst, inl, inr, ⊎_elim, append_assoc, arith}
-use Rattle.std.proofs.lemmas.Bool.{cond-true, cond-false}
+use Rattle.std.proofs.Common.{◌≡◌, ℕ, Bool, true, false, ◌⊎◌, List, [], ◌∷◌, ◌++◌, sym, refl, ap, ◌∙◌, subst, inl, inr, append_assoc, arith}
+use Rattle.std.proofs.lemmas.Bool.{cond-true}
 use Rattle.std.proofs.lemmas.Bool.Decides.{nat_tests}
-use Rattle.json_text.specs.Grammar.{Chars, Digits, Each, Elements, Elems, Exponent, Fraction, Json, Members, Membs, Minus, Number, Sign, Text, Value, White, Whole, digit, escapable, hex, nonzero, plain, power, sign, white}
+use Rattle.json_text.specs.Grammar.{Chars, Digits, Each, Elements, Elems, Exponent, Fraction, Json, Members, Membs, Minus, Number, Sign, Text, Value, White, Whole, digit, power}
 use Rattle.json_text.specs.Grammar.Chars.{no_char, char, escape, unicode}
 use Rattle.json_text.specs.Grammar.Digits.{digits}
 use Rattle.json_text.specs.Grammar.Each.{no_byte, byte}
@@ -16,10 +16,10 @@ use Rattle.json_text.specs.Grammar.Sign.{no_sign, signed as a-sign}
 use Rattle.json_text.specs.Grammar.Text.{text}
 use Rattle.json_text.specs.Grammar.Value.{is_null, is_true, is_false, is_number, is_string, empty_array, is_array, empty_object, is_object}
 use Rattle.json_text.specs.Grammar.Whole.{zero_alone, from_one}
-use Rattle.json_text.specs.Machine.{Kind, Mode, State, accepts, begin, closed, go_on, none_open, run, start, step}
+use Rattle.json_text.specs.Machine.{Kind, Mode, State, accepts, begin, closed, go_on, run, step}
 use Rattle.json_text.specs.Machine.Kind.{arr, obj}
-use Rattle.json_text.specs.Machine.Mode.{value, first, name, opened, colon, after, chars, escaped, minused, zeroed, whole, pointed, places, powered, signed, scaled}
-use Rattle.json_text.specs.Machine.State.{dead, live}
+use Rattle.json_text.specs.Machine.Mode.{value, first, name, opened, colon, after, chars, minused, zeroed, whole, places, powered, scaled}
+use Rattle.json_text.specs.Machine.State.{live}
 use Rattle.json_text.specs.Parts.{follow}
 use Rattle.json_text.proofs.Runs.{Done, done_after, done_places, done_scaled, done_whole, done_zeroed, each_stays, go_on_white, run_append, white_after, white_colon, white_first, white_name, white_opened, white_value, whole_from_value}
 

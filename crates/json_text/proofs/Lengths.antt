@@ -1,8 +1,6 @@
 -- One byte more of a string whose end is looked for. Assumes nothing.
-use Rattle.std.proofs.Common.{◌≡◌, ℕ, suc, ◌+◌, ◌<◌, ◌≤◌, min, cond, eqb, List, [], ◌∷◌, length, get_or, drop, sym, refl, ap, ◌∙◌, ⊎_elim, arith}
-use Rattle.json_text.specs.Beginnings.{Spot, deeper, past}
-use Rattle.json_text.specs.Beginnings.Spot.{outside, inside, escaped}
-use Rattle.json_text.specs.Parts.{closing, escaped_length, string_length, value_length}
+use Rattle.std.proofs.Common.{◌≡◌, ℕ, suc, ◌+◌, ◌<◌, ◌≤◌, min, List, [], ◌∷◌, length, get_or, drop, ap, ◌∙◌, ⊎_elim, arith}
+use Rattle.json_text.specs.Parts.{escaped_length, string_length, value_length}
 use Rattle.std.proofs.lemmas.List.{at_drop_all, at_drop_more}
 use Rattle.std.proofs.lemmas.Bool.{cases_lt, cond-false, cond-true, eq-eqb, ne_eqb}
 

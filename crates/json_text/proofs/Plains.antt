@@ -1,5 +1,5 @@
 -- Bytes that stand for themselves in a string. Assumes nothing.
-use Rattle.std.proofs.Common.{◌≡◌, ℕ, zero, suc, ◌+◌, ◌-◌, ◌<◌, ◌≤◌, Bool, true, false, ◌&&◌, List, length, get_or, take, drop, MatchBool, sym, refl, ap, ◌∙◌, subst, ⊎_elim, arith}
+use Rattle.std.proofs.Common.{◌≡◌, ℕ, zero, suc, ◌+◌, ◌-◌, ◌≤◌, Bool, true, false, ◌&&◌, List, length, get_or, take, drop, MatchBool, sym, refl, ap, ◌∙◌, subst, ⊎_elim, arith}
 use Rattle.json_text.specs.Grammar.{plain}
 use Rattle.json_text.specs.Parts.{PlainTo}
 use Rattle.json_text.proofs.Lengths.{Passed, none_passed, plain_passed}

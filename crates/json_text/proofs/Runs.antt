@@ -1,11 +1,11 @@
 -- Runs of the machine over parts of a text. Assumes nothing.
-use Rattle.std.proofs.Common.{◌≡◌, ℕ, Bool, true, false, cond, not, ◌&&◌, ◌||◌, eqb, leb, ◌⊎◌, List, [], ◌∷◌, ◌++◌, sym, refl, ap, ◌∙◌, subst, inl, inr, ⊎_elim, arith}
-use Rattle.std.proofs.lemmas.Bool.{cond-true, cond-false}
+use Rattle.std.proofs.Common.{◌≡◌, ℕ, Bool, true, List, [], ◌∷◌, ◌++◌, refl, ap, ◌∙◌, arith}
+use Rattle.std.proofs.lemmas.Bool.{cond-true}
 use Rattle.std.proofs.lemmas.Bool.Decides.{nat_tests}
-use Rattle.json_text.specs.Grammar.{Each, White, digit, nonzero, power, white}
+use Rattle.json_text.specs.Grammar.{Each, White, nonzero, white}
 use Rattle.json_text.specs.Grammar.Each.{no_byte, byte}
 use Rattle.json_text.specs.Parts.{follow}
-use Rattle.json_text.specs.Machine.{Kind, Mode, State, accepts, go_on, none_open, run, start, step}
+use Rattle.json_text.specs.Machine.{Kind, State, accepts, go_on, none_open, run, step}
 use Rattle.json_text.specs.Machine.Kind.{arr, obj}
 use Rattle.json_text.specs.Machine.Mode.{value, first, name, opened, colon, after, zeroed, whole, places, scaled}
 use Rattle.json_text.specs.Machine.State.{dead, live}

@@ -1,10 +1,10 @@
 -- The lengths by which values are skipped are those of the grammar's values. Assumes nothing.
-use Rattle.std.proofs.Common.{◌≡◌, ℕ, zero, suc, ◌+◌, ◌<◌, ◌≤◌, Bool, true, false, cond, not, ◌&&◌, ◌||◌, eqb, leb, List, [], ◌∷◌, ◌++◌, length, codes, sym, refl, ap, ◌∙◌, subst, ap₂, append_assoc, arith, length-append}
+use Rattle.std.proofs.Common.{◌≡◌, ℕ, suc, ◌+◌, Bool, true, false, cond, not, ◌&&◌, ◌||◌, eqb, List, [], ◌∷◌, ◌++◌, length, codes, refl, ap, ◌∙◌, append_assoc, arith, length-append}
 use Rattle.std.proofs.lemmas.Bool.{cond-true, cond-false, ne_eqb}
 use Rattle.std.proofs.lemmas.Bool.Decides.{nat_tests}
 use Rattle.json_text.specs.Beginnings.{Spot, deeper, past}
 use Rattle.json_text.specs.Beginnings.Spot.{outside, inside, escaped}
-use Rattle.json_text.specs.Grammar.{Chars, Each, Elements, Elems, Json, Members, Membs, Number, Text, Value, White, digit, escapable, hex, nonzero, plain, power, sign, white}
+use Rattle.json_text.specs.Grammar.{Chars, Each, Elements, Elems, Json, Members, Membs, Number, Value, White, hex}
 use Rattle.json_text.specs.Grammar.Chars.{no_char, char, escape, unicode}
 use Rattle.json_text.specs.Grammar.Each.{no_byte, byte}
 use Rattle.json_text.specs.Grammar.Elements.{last_element, next_element}
@@ -15,7 +15,6 @@ use Rattle.json_text.specs.Grammar.Number.{number}
 use Rattle.json_text.specs.Grammar.Whole.{zero_alone, from_one}
 use Rattle.json_text.specs.Parts.{Follows, closing, escaped_length, follow, scalar_length, string_length, value_length}
 use Rattle.json_text.specs.Parts.Follows.{ends, goes_on}
-use Rattle.json_text.proofs.Complete.{split_element, split_member}
 use Rattle.json_text.proofs.Unique.{number_numeric, numeric}
 
 -- bytes of which none may follow a value

@@ -1,8 +1,7 @@
 -- What the machine accepts is a text of the grammar. Assumes nothing.
-use Rattle.std.proofs.Common.{◌≡◌, ℕ, zero, suc, ◌+◌, ◌*◌, ◌<◌, ◌≤◌, Bool, true, false, cond, ◌&&◌, eqb, ◌⊎◌, List, [], ◌∷◌, ◌++◌, length, sym, refl, ap, ◌∙◌, subst, inl, inr, ⊎_elim, append_assoc, append-nil, arith, length-append}
-use Rattle.std.proofs.lemmas.Bool.{eqb-true, true≢false, false≢true}
-use Rattle.json_text.specs.Grammar.{Chars, Each, Elements, Elems, Json, Members, Membs, Minus, Number, Text, Value, White, Whole, nonzero, white}
-use Rattle.json_text.specs.Grammar.Each.{no_byte, byte}
+use Rattle.std.proofs.Common.{◌≡◌, ℕ, zero, suc, ◌+◌, ◌*◌, ◌<◌, ◌≤◌, true, false, cond, eqb, List, [], ◌∷◌, ◌++◌, length, sym, refl, ap, ◌∙◌, subst, ⊎_elim, append_assoc, arith, length-append}
+use Rattle.std.proofs.lemmas.Bool.{eqb-true, false≢true}
+use Rattle.json_text.specs.Grammar.{Chars, Elements, Elems, Json, Members, Membs, Minus, Text, Value, White, Whole, nonzero, white}
 use Rattle.json_text.specs.Grammar.Elems.{no_elem, elem}
 use Rattle.json_text.specs.Grammar.Elements.{last_element, next_element}
 use Rattle.json_text.specs.Grammar.Json.{jnull, jtrue, jfalse, jnumber, jstring, jarray, jobject}
@@ -13,12 +12,12 @@ use Rattle.json_text.specs.Grammar.Number.{number}
 use Rattle.json_text.specs.Grammar.Text.{text}
 use Rattle.json_text.specs.Grammar.Value.{is_null, is_true, is_false, is_number, is_string, empty_array, is_array, empty_object, is_object}
 use Rattle.json_text.specs.Grammar.Whole.{zero_alone, from_one}
-use Rattle.json_text.specs.Machine.{Kind, Mode, State, accepts, begin, run, start, step}
+use Rattle.json_text.specs.Machine.{Kind, State, accepts, begin, run, start}
 use Rattle.json_text.specs.Machine.Kind.{arr, obj}
 use Rattle.json_text.specs.Machine.Mode.{value, first, name, opened, colon, after, chars, literal, minused, whole, zeroed}
 use Rattle.json_text.specs.Machine.State.{dead, live}
 use Rattle.json_text.proofs.Complete.{split_element, split_member}
-use Rattle.json_text.proofs.Tokens.{Acc, Led, On, Part, Quoted, Tail, Wholes, by_last, by_test, chars_cut, led, led_or_all, literal_cut, not_dead, whole_cut, zeroed_cut}
+use Rattle.json_text.proofs.Tokens.{Acc, Led, On, Part, Tail, by_last, by_test, chars_cut, led, led_or_all, literal_cut, not_dead, whole_cut, zeroed_cut}
 
 -- a value at the front of the text
 record Found (k : List Kind) (s : List ℕ) : Type 0 where

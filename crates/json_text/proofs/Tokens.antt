@@ -1,14 +1,14 @@
 -- What an accepting run says of the white space, strings, literals and numbers that it has read. Assumes nothing.
-use Rattle.std.proofs.Common.{◌≡◌, ℕ, ◌<◌, ◌≤◌, Bool, true, false, cond, ◌&&◌, eqb, ◌⊎◌, List, [], ◌∷◌, ◌++◌, length, sym, refl, ap, ◌∙◌, subst, inl, inr, ⊎_elim, append_assoc, arith, length-append}
-use Rattle.std.proofs.lemmas.Bool.{both_ways, eqb-true, true≢false, false≢true}
-use Rattle.json_text.specs.Grammar.{Chars, Digits, Each, Exponent, Fraction, Sign, White, digit, escapable, hex, plain, power, sign, white}
+use Rattle.std.proofs.Common.{◌≡◌, ℕ, ◌<◌, ◌≤◌, Bool, true, false, cond, eqb, ◌⊎◌, List, [], ◌∷◌, ◌++◌, length, sym, refl, ap, ◌∙◌, subst, inl, inr, ⊎_elim, append_assoc, arith, length-append}
+use Rattle.std.proofs.lemmas.Bool.{eqb-true, true≢false, false≢true}
+use Rattle.json_text.specs.Grammar.{Chars, Digits, Each, Exponent, Fraction, digit, escapable, hex, plain, power, sign}
 use Rattle.json_text.specs.Grammar.Chars.{no_char, char, escape, unicode}
 use Rattle.json_text.specs.Grammar.Digits.{digits}
 use Rattle.json_text.specs.Grammar.Each.{no_byte, byte}
 use Rattle.json_text.specs.Grammar.Exponent.{no_exponent, exponent}
 use Rattle.json_text.specs.Grammar.Fraction.{no_fraction, fraction}
 use Rattle.json_text.specs.Grammar.Sign.{no_sign, signed as a-sign}
-use Rattle.json_text.specs.Machine.{Kind, Mode, State, accepts, after_whole, closed, go_on, literal_step, run, step}
+use Rattle.json_text.specs.Machine.{Kind, State, accepts, after_whole, closed, go_on, run, step}
 use Rattle.json_text.specs.Machine.Mode.{after, chars, escaped, hex1, hex2, hex3, hex4, literal, places, pointed, powered, scaled, signed, whole, zeroed}
 use Rattle.json_text.specs.Machine.State.{dead, live}
 use Rattle.json_text.proofs.Runs.{run_dead}

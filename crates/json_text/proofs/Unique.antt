@@ -1,8 +1,8 @@
 -- A text has at most one tree: a reading that goes by the next byte alone gives the tree of every text. Assumes nothing.
-use Rattle.std.proofs.Common.{◌≡◌, ℕ, zero, suc, ◌+◌, ◌*◌, ◌<◌, ◌≤◌, Bool, true, false, cond, not, ◌&&◌, ◌||◌, eqb, leb, List, [], ◌∷◌, ◌++◌, length, sym, refl, ap, ◌∙◌, subst, ap₂, append_assoc, append-nil, arith, length-append}
+use Rattle.std.proofs.Common.{◌≡◌, ℕ, zero, suc, ◌+◌, ◌*◌, ◌<◌, Bool, true, false, cond, ◌||◌, eqb, List, [], ◌∷◌, ◌++◌, length, sym, refl, ap, ◌∙◌, ap₂, append_assoc, arith, length-append}
 use Rattle.std.proofs.lemmas.Bool.{cond-true, cond-false, true≢false}
 use Rattle.std.proofs.lemmas.Bool.Decides.{nat_tests}
-use Rattle.json_text.specs.Grammar.{Chars, Digits, Each, Elements, Elems, Exponent, Fraction, Json, Members, Membs, Minus, Number, Sign, Text, Value, White, Whole, digit, escapable, hex, nonzero, plain, power, sign, white}
+use Rattle.json_text.specs.Grammar.{Chars, Digits, Each, Elements, Elems, Exponent, Fraction, Json, Members, Membs, Minus, Number, Sign, Text, Value, White, Whole, digit, hex, plain, power, sign, white}
 use Rattle.json_text.specs.Grammar.Chars.{no_char, char, escape, unicode}
 use Rattle.json_text.specs.Grammar.Digits.{digits}
 use Rattle.json_text.specs.Grammar.Each.{no_byte, byte}

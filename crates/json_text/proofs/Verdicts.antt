@@ -1,10 +1,10 @@
 -- From the machine's run to what is said of the bytes. Assumes nothing.
-use Rattle.std.proofs.Common.{◌≡◌, ℕ, zero, suc, ◌+◌, ◌-◌, ◌<◌, ◌≤◌, Bool, true, false, ◌⊎◌, List, [], ◌∷◌, ◌++◌, length, get_or, take, drop, sym, refl, ap, ◌∙◌, subst, inl, inr, ⊎_elim, arith, take-add}
+use Rattle.std.proofs.Common.{◌≡◌, ℕ, zero, suc, ◌+◌, ◌-◌, ◌<◌, ◌≤◌, Bool, true, false, ◌⊎◌, List, [], ◌∷◌, length, get_or, take, drop, sym, refl, ap, ◌∙◌, subst, inl, inr, ⊎_elim, arith, take-add}
 use Rattle.std.proofs.lemmas.List.{take_all, take_more, take-take, take-append-drop}
 use Rattle.std.proofs.lemmas.Bool.{cases_lt, false≢true}
 use Rattle.std.proofs.lemmas.Bool.Decides.{nat_tests}
-use Rattle.json_text.specs.Beginnings.{Begins, Deep, IsJson, TooDeepAt, deepest, depth}
-use Rattle.json_text.specs.Machine.{Kind, Mode, State, accepts, begin, closed, run, step}
+use Rattle.json_text.specs.Beginnings.{Deep, IsJson, TooDeepAt, deepest}
+use Rattle.json_text.specs.Machine.{Kind, State, accepts, begin, closed, run, step}
 use Rattle.json_text.specs.Grammar.{plain}
 use Rattle.json_text.specs.Machine.Mode.{chars}
 use Rattle.json_text.specs.Machine.State.{dead, live}

@@ -1,5 +1,5 @@
 -- Beginnings of JSON texts, and how deep they are nested. Assumes nothing.
-use Rattle.std.specs.Prelude.{◌≡◌, ℕ, suc, pred, ◌<◌, ◌≤◌, Bool, cond, ◌||◌, List, [], ◌∷◌, ◌++◌, length, take, ◌==◌}
+use Rattle.std.specs.Prelude.{◌≡◌, ℕ, suc, pred, ◌<◌, ◌≤◌, cond, ◌||◌, List, [], ◌∷◌, ◌++◌, length, take, ◌==◌}
 use Rattle.json_text.specs.Grammar.{Json, Text}
 
 -- some bytes more make the bytes a JSON text

@@ -1,5 +1,5 @@
 -- A repeater's own rules keep the laws of every channel. Assumes nothing.
-use Rattle.std.proofs.Common.{◌≡◌, ℕ, zero, suc, ◌+◌, ◌/◌, ◌<◌, ◌≤◌, cond, eqb, ◌⊎◌, List, [], ◌∷◌, ◌++◌, length, replicate, Ok, Err, Option, Result, sym, refl, ap, ◌∙◌, subst, inl, inr, ⊎_elim, le_trans, le-div_iff_mul-le, div-mul-le_self, arith}
+use Rattle.std.proofs.Common.{◌≡◌, ℕ, zero, suc, ◌+◌, ◌/◌, ◌<◌, ◌≤◌, eqb, ◌⊎◌, replicate, Ok, Err, Option, Result, sym, ap, ◌∙◌, subst, inl, inr, ⊎_elim, le_trans, le-div_iff_mul-le, div-mul-le_self, arith}
 use native.Mathlib.Nat.{add-div_right, div-eq_of_lt, zero-div}
 use lib.ListN.{length-replicate}
 use Rattle.channel.specs.Laws.{Receives, Sends}

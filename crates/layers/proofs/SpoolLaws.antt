@@ -1,14 +1,14 @@
 -- A spool's own rules keep the laws of every channel. Assumes nothing.
-use Rattle.std.proofs.Common.{◌≡◌, ℕ, zero, suc, ◌+◌, ◌-◌, ◌<◌, ◌≤◌, min, ◌⊎◌, List, [], ◌∷◌, ◌++◌, length, take, IfSome, Some, None, Ok, Err, Option, Result, sym, refl, ap, ◌∙◌, subst, inl, inr, ⊎_elim, append-nil, arith, length-append}
+use Rattle.std.proofs.Common.{◌≡◌, ℕ, zero, suc, ◌+◌, ◌-◌, ◌<◌, ◌≤◌, ◌⊎◌, List, [], ◌∷◌, ◌++◌, length, take, IfSome, Some, None, Ok, Err, Option, Result, sym, refl, ap, ◌∙◌, subst, inl, inr, ⊎_elim, arith, length-append}
 use Rattle.std.proofs.lemmas.List.{length_push}
 use Rattle.channel.specs.Laws.{Accepted, Receives, Refused, Sends}
 use Rattle.channel.specs.Members.{In}
 use Rattle.channel.specs.declared.channel.Channel.{Ghosts as Promises}
 use Rattle.channel.specs.declared.faults.Full.{Full}
 use Rattle.channel.proofs.Members.{in_append, in_append_left, in_append_right, in_push}
-use Rattle.layers.specs.Below.{Sent, Took, free_of, waiting_in}
+use Rattle.layers.specs.Below.{Took, free_of, waiting_in}
 use Rattle.layers.specs.Limits.{spool_places}
-use Rattle.layers.specs.Spool.{Forwarded, Goes, Holds, Passes, SpoolReceives, SpoolSends, Spooled, TurnedAway, spool_meaning}
+use Rattle.layers.specs.Spool.{Goes, Passes, SpoolReceives, SpoolSends, Spooled, TurnedAway, spool_meaning}
 use Rattle.layers.proofs.Chains.{took_free, took_open, took_waits}
 
 -- the layer in a refusal, and 0 where there is none

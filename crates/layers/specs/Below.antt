@@ -1,5 +1,5 @@
 -- The channel that a layer stands on, known by its promises alone. Assumes nothing.
-use Rattle.std.specs.Prelude.{◌≡◌, ℕ, ◌<◌, List, [], ◌∷◌, Ok, Option, Result}
+use Rattle.std.specs.Prelude.{◌≡◌, ℕ, List, [], ◌∷◌, Ok, Option, Result}
 use Rattle.channel.specs.Laws.{Receives, Sends}
 use Rattle.channel.specs.declared.channel.Channel.{Ghosts as Promises}
 use Rattle.channel.specs.declared.faults.Full.{Full}

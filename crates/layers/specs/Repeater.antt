@@ -1,5 +1,5 @@
 -- What a repeater's calls do. Assumes nothing.
-use Rattle.std.specs.Prelude.{◌≡◌, ℕ, ◌/◌, ◌<◌, ◌≤◌, cond, ◌⊎◌, List, replicate, Ok, Err, Result, ◌==◌}
+use Rattle.std.specs.Prelude.{◌≡◌, ℕ, ◌/◌, ◌<◌, ◌≤◌, cond, ◌⊎◌, replicate, Ok, Err, Result, ◌==◌}
 use Rattle.channel.specs.Laws.{Meaning}
 use Rattle.channel.specs.declared.channel.Channel.{Ghosts as Promises}
 use Rattle.channel.specs.declared.faults.Full.{Full}

@@ -1,5 +1,5 @@
 -- What a spool holds, and what its calls do. Assumes nothing.
-use Rattle.std.specs.Prelude.{◌≡◌, ℕ, ◌+◌, ◌-◌, ◌<◌, min, ◌⊎◌, List, [], ◌∷◌, ◌++◌, length, take, Ok, Err, Option, Result}
+use Rattle.std.specs.Prelude.{◌≡◌, ◌+◌, ◌-◌, ◌<◌, min, ◌⊎◌, List, [], ◌∷◌, ◌++◌, length, take, Ok, Err, Option, Result}
 use Rattle.channel.specs.Laws.{Meaning}
 use Rattle.channel.specs.declared.channel.Channel.{Ghosts as Promises}
 use Rattle.channel.specs.declared.faults.Full.{Full}

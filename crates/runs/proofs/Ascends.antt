@@ -1,6 +1,6 @@
 -- Rising runs, and the numbers that lie in them. Assumes nothing.
-use Rattle.std.proofs.Common.{◌≡◌, ℕ, zero, suc, ◌+◌, ◌<◌, ◌≤◌, Bool, true, false, ◌&&◌, ◌||◌, eqb, ltb, leb, ◌⊎◌, List, [], ◌∷◌, ◌++◌, sym, refl, ap, ◌∙◌, subst, inl, inr, ⊎_elim, arith}
-use Rattle.std.proofs.lemmas.Bool.{and_parts, and_from, and_left, and_right, or_cases, or_from, or_left, or_right, or_parts, le-leb, lt-leb, leb-true, leb-false, cases_Bool, both_ways, cases_lt}
+use Rattle.std.proofs.Common.{◌≡◌, ℕ, suc, ◌+◌, ◌<◌, ◌≤◌, Bool, true, false, ◌||◌, leb, List, [], ◌∷◌, ◌++◌, sym, refl, ap, ◌∙◌, ⊎_elim, arith}
+use Rattle.std.proofs.lemmas.Bool.{and_parts, and_from, and_left, and_right, or_cases, or_from, or_left, le-leb, lt-leb, leb-true, cases_Bool, both_ways}
 use Rattle.std.specs.List.{AllByRecursion}
 use Rattle.runs.specs.Stretches.{within, covers, ascending, Maximal, Stretches}
 use Rattle.runs.specs.declared.run.Run.{Run}

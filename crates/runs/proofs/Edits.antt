@@ -1,11 +1,10 @@
 -- Changing runs at one place so that they take in one number more. Assumes nothing.
-use Rattle.std.proofs.Common.{◌≡◌, ℕ, suc, ◌+◌, ◌<◌, ◌≤◌, min, max, Bool, true, false, ◌&&◌, ◌||◌, eqb, leb, List, [], ◌∷◌, ◌++◌, sym, refl, ap, ◌∙◌, arith}
-use Rattle.std.proofs.lemmas.Bool.{le-leb, lt-leb, eq-eqb, ne_eqb}
+use Rattle.std.proofs.Common.{◌≡◌, ℕ, suc, ◌+◌, ◌≤◌, min, max, Bool, true, false, ◌||◌, eqb, List, [], ◌∷◌, ◌++◌, refl, ap, ◌∙◌, arith}
 use Rattle.std.proofs.lemmas.Bool.Decides.{nat_tests}
 use Rattle.std.specs.List.{AllByRecursion}
 use Rattle.runs.specs.Stretches.{within, covers, with_number, Stretches}
 use Rattle.runs.specs.declared.run.Run.{Run}
-use Rattle.runs.proofs.Ascends.{Rising, rising_weaker, stretches_exact}
+use Rattle.runs.proofs.Ascends.{Rising, stretches_exact}
 
 -- the same runs from `low` on, and n
 abbrev pub With : ℕ → ℕ → List Run → List Run → Type 0

@@ -1,8 +1,8 @@
 -- The gaps between runs are the stretches of the numbers between them. Assumes nothing.
-use Rattle.std.proofs.Common.{◌≡◌, ℕ, zero, suc, ◌+◌, ◌-◌, ◌<◌, ◌≤◌, Bool, true, false, cond, not, ◌&&◌, ◌||◌, ltb, leb, List, [], ◌∷◌, ◌++◌, length, get_or, take, sym, refl, ap, ◌∙◌, subst, ⊎_elim, le_of_suc-le-suc, arith}
+use Rattle.std.proofs.Common.{◌≡◌, ℕ, zero, suc, ◌+◌, ◌-◌, ◌<◌, ◌≤◌, true, false, not, ◌&&◌, ◌||◌, ltb, List, [], ◌∷◌, ◌++◌, length, get_or, take, sym, refl, ap, ◌∙◌, ⊎_elim, le_of_suc-le-suc, arith}
 use Rattle.std.proofs.lemmas.List.{append_assoc, append-nil}
-use Rattle.std.proofs.lemmas.Bool.{both_ways, or_cases, and_from, and_left, and_right, cases_lt, cond_both, cond-true, cond-false, le-ltb, lt-ltb, ltb-true, ltb-false, or_from, or_left, or_right, not_from_true}
-use Rattle.runs.proofs.Ascends.{Rising, covers_append, covers_below, covers_past, rising_weaker, within_after, within_before, within_in, within_parts}
+use Rattle.std.proofs.lemmas.Bool.{both_ways, or_cases, and_from, and_left, and_right, cases_lt, cond_both, le-ltb, lt-ltb, ltb-true, ltb-false, or_from, or_left, or_right}
+use Rattle.runs.proofs.Ascends.{Rising, covers_append, covers_below, covers_past, rising_weaker, within_after, within_in, within_parts}
 use Rattle.runs.specs.Gaps.{between, edge, gap, highest}
 use Rattle.runs.specs.Stretches.{covers, within}
 use Rattle.runs.specs.declared.run.Run.{Run}

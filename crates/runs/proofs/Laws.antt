@@ -1,8 +1,8 @@
 -- The maximal stretches are one list, and counting up finds it. Assumes nothing.
-use Rattle.std.proofs.Common.{◌≡◌, ℕ, zero, suc, ◌+◌, ◌<◌, ◌≤◌, Bool, true, false, cond, ◌&&◌, ◌||◌, eqb, ltb, leb, ◌⊎◌, List, [], ◌∷◌, ◌++◌, sym, refl, ap, ◌∙◌, subst, inl, inr, ⊎_elim, arith}
-use Rattle.std.proofs.lemmas.Bool.{le-leb, or_left, or_from, both_ways, cases_lt, cases_order, cases_Bool, cases_eq, cond-true, cond-false, cond_both, eqb-true, eqb-false, eq-eqb, ne_eqb}
-use Rattle.runs.proofs.Ascends.{Rising, rising_from, ascending_from, within_in, within_before, within_after, covers_past, covers_below, stretches_exact, covers_is, rising_weaker}
-use Rattle.runs.specs.Stretches.{within, covers, Stretches, in_front, stretches_from, stretches, CountedOut, Unique}
+use Rattle.std.proofs.Common.{◌≡◌, ℕ, zero, suc, ◌+◌, ◌<◌, ◌≤◌, Bool, true, false, cond, ◌&&◌, ◌||◌, eqb, leb, List, [], ◌∷◌, sym, refl, ap, ◌∙◌, subst, ⊎_elim, arith}
+use Rattle.std.proofs.lemmas.Bool.{le-leb, or_left, or_from, both_ways, cases_lt, cases_order, cond_both, eqb-true, eqb-false}
+use Rattle.runs.proofs.Ascends.{Rising, rising_from, within_in, within_after, covers_past, covers_below, stretches_exact, covers_is, rising_weaker}
+use Rattle.runs.specs.Stretches.{within, covers, in_front, stretches_from, stretches, CountedOut, Unique}
 use Rattle.runs.specs.declared.run.Run.{Run}
 
 -- what lies in the runs begins no later than the first of other runs with the same numbers

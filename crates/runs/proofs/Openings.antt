@@ -1,11 +1,10 @@
 -- The three changes of a table, at the place of a number. Assumes nothing.
-use Rattle.std.proofs.Common.{◌≡◌, ℕ, zero, suc, ◌+◌, ◌<◌, ◌≤◌, max, true, List, [], ◌∷◌, ◌++◌, length, get_or, take, drop, sym, refl, ap, ◌∙◌, subst, le_of_suc-le-suc, arith, take-append-drop, drop-cons}
-use Rattle.std.specs.List.{AllByRecursion}
-use Rattle.std.proofs.lemmas.List.{drop_all, drop_more, length-drop, get_or-drop}
+use Rattle.std.proofs.Common.{◌≡◌, ℕ, suc, ◌+◌, ◌<◌, ◌≤◌, max, true, List, [], ◌∷◌, ◌++◌, length, get_or, take, drop, sym, ap, ◌∙◌, subst, arith, take-append-drop}
+use Rattle.std.proofs.lemmas.List.{drop_more, length-drop, get_or-drop}
 use Rattle.runs.specs.Places.{Clear, Touches, Between}
-use Rattle.runs.specs.Stretches.{within, covers, ascending, with_number, Stretches}
+use Rattle.runs.specs.Stretches.{covers, ascending, with_number, Stretches}
 use Rattle.runs.specs.declared.run.Run.{Run}
-use Rattle.runs.proofs.Ascends.{Rising, rising_from, rising_weaker}
+use Rattle.runs.proofs.Ascends.{Rising, rising_from}
 use Rattle.runs.proofs.Edits.{With, edit, opened, taken_in, joins, widened, joined}
 
 -- runs whose first begins late enough begin late enough

@@ -1,5 +1,5 @@
 -- The numbers between runs. Assumes nothing.
-use Rattle.std.specs.Prelude.{◌≡◌, ℕ, suc, ◌-◌, Bool, cond, not, ◌&&◌, List, [], ◌∷◌, ◌++◌, take, Option, nat_lt, slice_index_or}
+use Rattle.std.specs.Prelude.{◌≡◌, ℕ, suc, ◌-◌, Bool, cond, not, ◌&&◌, List, [], ◌∷◌, take, Option, nat_lt, slice_index_or}
 use Rattle.runs.specs.Stretches.{covers}
 use Rattle.runs.specs.declared.run.Run.{Run}
 use Rattle.std.specs.Option.{option_to_list}

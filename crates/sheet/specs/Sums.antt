@@ -1,5 +1,5 @@
 -- The totals of a sheet. Assumes nothing.
-use Rattle.std.specs.Prelude.{◌≡◌, ℕ, ◌+◌, ◌^◌, ◌≤◌, ◌⊎◌, Option, MatchOption}
+use Rattle.std.specs.Prelude.{◌≡◌, ◌+◌, ◌^◌, ◌≤◌, ◌⊎◌, Option, MatchOption}
 use Rattle.sheet.specs.declared.entry.Charge.{Charge}
 use Rattle.sheet.specs.declared.totals.Totals.{Totals}
 

@@ -1,7 +1,7 @@
 -- What is found in a row is what the statement has of the session. Assumes nothing.
 use Rattle.std.proofs.Common.{◌≡◌, ℕ, zero, suc, ◌+◌, ◌<◌, ◌≤◌, Bool, true, false, cond, not, List, [], ◌∷◌, ◌++◌, length, get_or, take, decimal, filter, sym, refl, ap, ◌∙◌, subst, ⊎_elim, arith}
 use Rattle.std.proofs.lemmas.List.Filters.{length-filter_both, length-filter_more}
-use Rattle.std.proofs.lemmas.List.{append_assoc, append-nil, flat_map_more, length-append, take_all, take_more}
+use Rattle.std.proofs.lemmas.List.{append_assoc, flat_map_more, length-append, take_all, take_more}
 use Rattle.std.proofs.lemmas.Bool.{cases_Bool, cond-false, cond-true}
 use Rattle.std.specs.List.{flat_map}
 use Rattle.event.specs.declared.events.Event.{Event}
@@ -9,7 +9,7 @@ use Rattle.ids.specs.declared.TransactionId.{TransactionId}
 use Rattle.ledger.proofs.Ledgers.{sessions_length}
 use Rattle.ledger.proofs.Looking.{missing_maximal}
 use Rattle.ledger.specs.Contents.{events_in}
-use Rattle.ledger.specs.Found.{Looks, Tells}
+use Rattle.ledger.specs.Found.{Tells}
 use Rattle.ledger.specs.Held.{billed, missing, missing_of, sessions}
 use Rattle.ledger.specs.Rows.{runs_in}
 use Rattle.ledger.specs.declared.found.Bill.{Bill}
@@ -18,7 +18,7 @@ use Rattle.ledger.specs.declared.found.Found.{Found}
 use Rattle.ledger.specs.declared.found.Found.TheVariants as found
 use Rattle.ledger.specs.declared.ledger.Ledger.{Ledger}
 use Rattle.runs.proofs.Laws.{unique}
-use Rattle.statement.specs.Lines.{billed_line, end_text, head, open_line, stretches_text}
+use Rattle.statement.specs.Lines.{billed_line, head, open_line}
 use Rattle.statement.specs.Parts.{Payable, found_text, part_text, rows_text}
 use Rattle.statement.specs.Statement.{bill_of, billed_sessions, lack_of, open_sessions}
 use Rattle.statement.specs.declared.part.Part.{Part}

@@ -1,5 +1,5 @@
 use Rattle.std.proofs.Common.{codes, refl, arith}
-use Rattle.calendar.specs.Calendar.{Denotes, Lawful, month_length, second_of, sum, text_of}
+use Rattle.calendar.specs.Calendar.{Denotes, month_length, sum, text_of}
 use Rattle.decimal.specs.Decimal.{fixed}
 use Rattle.cards.proofs.SessionCards.{session_cards}
 use Rattle.cards.specs.Cards.{Cards}

@@ -1,4 +1,4 @@
-use Rattle.std.proofs.Common.{length, take, drop, sym, refl, ◌∙◌, subst, inl, inr, add-one, arith, length-drop, length-take, get_or-take}
+use Rattle.std.proofs.Common.{length, sym, refl, ◌∙◌, inl, inr, add-one, arith, length-drop, length-take, get_or-take}
 use native.Mathlib.Nat.{sub-zero}
 use Rattle.std.proofs.lemmas.List.{take_rest}
 use Rattle.split.proofs.Sides.{after_at, after_none, before_at, before_none, split_at}

@@ -1,9 +1,8 @@
-use Rattle.std.proofs.Common.{◌≡◌, codes, sym, refl, ap, ◌∙◌, subst}
-use Rattle.frame.specs.Call.{NoCall, array_of_four}
+use Rattle.std.proofs.Common.{codes, sym, refl, ◌∙◌, subst}
+use Rattle.frame.specs.Call.{array_of_four}
 use Rattle.frame.proofs.Fours.{same_four}
 use Rattle.frame.proofs.array.find_call.Goals as goal
 use Rattle.json_text.specs.Grammar.{Value}
-use Rattle.json_text.specs.Grammar.Json.{jnumber, jobject, jstring}
 use Rattle.std.proofs.lemmas.Bool.{true≢false}
 
 pub returns-in_err-four : goal.returns-in_err-four

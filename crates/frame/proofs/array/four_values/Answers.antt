@@ -1,4 +1,4 @@
-use Rattle.std.proofs.Common.{◌≡◌, sym, ap, ◌∙◌, arith}
+use Rattle.std.proofs.Common.{sym, ap, ◌∙◌, arith}
 use Rattle.frame.proofs.Fours.{ahead_of, none_left, not_four, nothing_left, size, size_of, some_left}
 use Rattle.frame.proofs.array.four_values.Goals as goal
 use Rattle.json_text.specs.Grammar.Elems.{elem}

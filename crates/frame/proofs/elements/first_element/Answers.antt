@@ -1,4 +1,4 @@
-use Rattle.std.proofs.Common.{◌≡◌, ◌∷◌, drop, sym, refl, ap, ◌∙◌, subst, ⊎_elim}
+use Rattle.std.proofs.Common.{◌≡◌, drop, sym, ap, ◌∙◌, subst, ⊎_elim}
 use Rattle.frame.specs.Kinds.{At}
 use Rattle.frame.specs.Walks.{AheadIn}
 use Rattle.frame.proofs.Fronts.{inside_array, opens_at, some_elem}

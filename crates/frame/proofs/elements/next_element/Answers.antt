@@ -1,4 +1,4 @@
-use Rattle.std.proofs.Common.{◌≡◌, sym, ◌∙◌, subst}
+use Rattle.std.proofs.Common.{sym, ◌∙◌, subst}
 use Rattle.frame.proofs.Fronts.{front_in, more_in}
 use Rattle.frame.proofs.elements.next_element.Goals as goal
 use Rattle.json_text.specs.Grammar.{Value}

@@ -1,4 +1,4 @@
-use Rattle.std.proofs.Common.{◌≡◌, ◌<◌, ◌∷◌, length, sym, ap, ◌∙◌, arith, length-drop, false-eqb}
+use Rattle.std.proofs.Common.{◌<◌, ◌∷◌, length, sym, ap, ◌∙◌, arith, length-drop, false-eqb}
 use Rattle.frame.proofs.Fronts.{first_rest, skip_short}
 use Rattle.frame.proofs.members.after.Goals as goal
 use Rattle.std.proofs.lemmas.List.{take_rest}

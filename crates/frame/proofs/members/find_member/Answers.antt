@@ -1,5 +1,5 @@
-use Rattle.std.proofs.Common.{◌≡◌, sym, refl, ap, ◌∙◌, subst}
-use Rattle.frame.specs.Slots.{SoFar, added}
+use Rattle.std.proofs.Common.{sym, refl, ap, ◌∙◌, subst}
+use Rattle.frame.specs.Slots.{SoFar}
 use Rattle.frame.specs.Walks.{Ahead, quoted}
 use Rattle.frame.proofs.Looks.{Left, hit, miss, unquoted}
 use Rattle.frame.proofs.members.find_member.Goals as goal

@@ -1,6 +1,6 @@
-use Rattle.std.proofs.Common.{◌≡◌, ◌∷◌, drop, sym, ap, ◌∙◌, subst, ⊎_elim}
+use Rattle.std.proofs.Common.{◌≡◌, drop, sym, ap, ◌∙◌, subst, ⊎_elim}
 use Rattle.frame.specs.Walks.{Ahead}
-use Rattle.frame.proofs.Fronts.{Inside, inside}
+use Rattle.frame.proofs.Fronts.{inside}
 use Rattle.frame.proofs.members.first_member.Goals as goal
 use Rattle.json_text.specs.Parts.{skip}
 

@@ -1,4 +1,4 @@
-use Rattle.std.proofs.Common.{◌≡◌, ◌≤◌, length, sym, ap, ◌∙◌, subst, arith, length-append}
+use Rattle.std.proofs.Common.{◌≤◌, length, sym, ap, ◌∙◌, subst, arith, length-append}
 use Rattle.frame.proofs.Fronts.{front, more_from, shorter_from, skip_short}
 use Rattle.frame.proofs.members.next_member.Goals as goal
 use Rattle.json_text.specs.Grammar.{Value}

@@ -1,4 +1,3 @@
-use Rattle.std.proofs.Common.{refl, arith}
 use Rattle.frame.proofs.members.required.Goals as goal
 
 pub returns-in-Once : goal.returns-in-Once

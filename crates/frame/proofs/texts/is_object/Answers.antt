@@ -1,4 +1,4 @@
-use Rattle.std.proofs.Common.{◌≡◌, true, false, eqb, length, get_or, refl, arith, true-eqb}
+use Rattle.std.proofs.Common.{length, get_or, arith, true-eqb}
 use Rattle.frame.proofs.Scalars.{object_by_first, object_first, when_eqb}
 use Rattle.frame.proofs.texts.is_object.Goals as goal
 

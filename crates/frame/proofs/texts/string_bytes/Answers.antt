@@ -1,4 +1,4 @@
-use Rattle.std.proofs.Common.{◌≡◌, [], ◌∷◌, length, get_or, sym, ap, ◌∙◌, arith, length-append}
+use Rattle.std.proofs.Common.{[], ◌∷◌, length, get_or, sym, ap, ◌∙◌, arith, length-append}
 use Rattle.frame.proofs.Scalars.{string_bytes_are, string_first, unquoted_bytes}
 use Rattle.frame.proofs.texts.string_bytes.Goals as goal
 use Rattle.json_text.specs.Grammar.Json.{jstring}

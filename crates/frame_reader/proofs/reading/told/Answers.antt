@@ -1,4 +1,4 @@
-use Rattle.std.proofs.Common.{◌≡◌, Some, codes, decimal, sym, refl, ap, ◌∙◌, subst, arith, MatchOption}
+use Rattle.std.proofs.Common.{◌≡◌, Some, codes, decimal, sym, refl, ap, ◌∙◌, arith}
 use Rattle.frame_reader.specs.Members.{chain, members_of}
 use Rattle.frame_reader.proofs.Onlys.{in_id, same_some, value_if}
 use Rattle.frame_reader.proofs.Same.{same_number}

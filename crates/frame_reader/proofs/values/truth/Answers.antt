@@ -1,4 +1,4 @@
-use Rattle.std.proofs.Common.{codes, sym, ◌∙◌}
+use Rattle.std.proofs.Common.{sym, ◌∙◌}
 use Rattle.frame_reader.proofs.Forms.{false_by_bytes, no_flag, true_by_bytes}
 use Rattle.frame_reader.proofs.values.truth.Goals as goal
 use Rattle.std.proofs.lemmas.Slice.Eq.{slice_eq-Decides}

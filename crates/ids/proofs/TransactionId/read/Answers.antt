@@ -1,10 +1,10 @@
-use Rattle.std.proofs.Common.{◌≡◌, ℕ, ◌<◌, ◌≤◌, List, [], ◌∷◌, length, get_or, take, drop, sym, refl, ap, subst, inl, inr, arith, length-drop, ltb-true}
+use Rattle.std.proofs.Common.{ℕ, ◌≤◌, List, length, sym, refl, ap, subst, inl, inr, arith, length-drop, ltb-true}
 use Rattle.decimal.specs.Decimal.{FixedText}
 use Rattle.ids.specs.Ids.{NoId, Written}
 use Rattle.ids.proofs.Forms.{Parts, parts, take_five, whole}
 use Rattle.ids.proofs.TransactionId.read.Goals as goal
 use Rattle.ids.proofs.TransactionId.read.Goals.{In-Some-fixed_value}
-use Rattle.refusal.specs.declared.Refusal.TheVariants.{BadValue, OutOfRange}
+use Rattle.refusal.specs.declared.Refusal.TheVariants.{BadValue}
 use Rattle.std.proofs.lemmas.List.{take_rest}
 use Rattle.std.proofs.lemmas.Bool.{true≢false}
 

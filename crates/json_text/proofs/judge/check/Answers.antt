@@ -1,6 +1,6 @@
-use Rattle.std.proofs.Common.{◌≡◌, ◌+◌, ◌-◌, ◌≤◌, length, get_or, take, sym, refl, ap, ◌∙◌, subst, inl, inr, arith, length-drop}
+use Rattle.std.proofs.Common.{◌≡◌, ◌+◌, length, get_or, take, sym, refl, ap, ◌∙◌, subst, inl, inr, arith, length-drop}
 use Rattle.json_text.specs.Machine.{accepts, begin, run, step}
-use Rattle.json_text.specs.Verdict.{Judged, Passes, Shallow, state_of}
+use Rattle.json_text.specs.Verdict.{Passes, Shallow, state_of}
 use Rattle.json_text.proofs.Unique.{one_tree}
 use Rattle.json_text.proofs.Verdicts.{at_end, is_json, not_deep, not_json, run_more, run_on, shallow_more, shallow_on, shallow_scanner, stopped}
 use Rattle.json_text.proofs.judge.check.Goals as goal

@@ -1,5 +1,4 @@
-use Rattle.std.proofs.Common.{◌≡◌, ℕ, suc, ◌+◌, cond, eqb, get_or, drop, sym, ap, ◌∙◌, ap₂, arith}
-use Rattle.json_text.specs.Beginnings.{deeper, past}
+use Rattle.std.proofs.Common.{◌≡◌, suc, ◌+◌, cond, eqb, drop, sym, ◌∙◌, ap₂, arith}
 use Rattle.json_text.specs.Parts.{closing}
 use Rattle.json_text.specs.Spots.{spot_of}
 use Rattle.json_text.proofs.nested.closing_length.Goals as goal

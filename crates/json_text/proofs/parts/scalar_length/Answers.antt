@@ -1,4 +1,4 @@
-use Rattle.std.proofs.Common.{◌≡◌, suc, ◌+◌, ◌∷◌, get_or, drop, sym, ap, ◌∙◌, arith}
+use Rattle.std.proofs.Common.{◌≡◌, suc, ◌+◌, drop, sym, ◌∙◌, arith}
 use Rattle.json_text.specs.Parts.{scalar_length}
 use Rattle.json_text.proofs.parts.scalar_length.Goals as goal
 use Rattle.std.proofs.lemmas.List.{at_drop_more, at_drop_all}

@@ -1,4 +1,4 @@
-use Rattle.std.proofs.Common.{◌≡◌, ◌+◌, ◌∷◌, get_or, drop, sym, ap, ◌∙◌, arith}
+use Rattle.std.proofs.Common.{◌≡◌, ◌+◌, ◌∷◌, get_or, drop, sym, ◌∙◌}
 use Rattle.json_text.specs.Parts.{skip}
 use Rattle.json_text.proofs.parts.skip_white.Goals as goal
 use Rattle.std.proofs.lemmas.List.{at_drop_more, at_drop_all, take_rest}

@@ -1,4 +1,4 @@
-use Rattle.std.proofs.Common.{◌+◌, ◌-◌, length}
+use Rattle.std.proofs.Common.{◌-◌, length}
 use Rattle.json_text.proofs.Lengths.{Passed}
 use Rattle.json_text.proofs.quoted.string_length.Given as goal
 

@@ -1,4 +1,4 @@
-use Rattle.std.proofs.Common.{◌≡◌, ℕ, ◌+◌, ◌≤◌, Bool, cond, length, get_or, take, filter, sym, ap, ◌∙◌, subst, arith}
+use Rattle.std.proofs.Common.{◌≡◌, ℕ, Bool, cond, length, get_or, filter, sym, ap, ◌∙◌, arith}
 use Rattle.ledger.specs.Contents.{events_in}
 use Rattle.ledger.specs.Held.{billed, sessions}
 use Rattle.std.proofs.lemmas.List.{take_all}

@@ -1,4 +1,4 @@
-use Rattle.std.proofs.Common.{◌≡◌, ◌+◌, ◌-◌, ◌≤◌, ◌++◌, length, get_or, take, sym, ap, ◌∙◌, subst, append_assoc, arith, length-append, length-take, rules}
+use Rattle.std.proofs.Common.{◌≡◌, ◌+◌, ◌-◌, ◌≤◌, ◌++◌, length, get_or, take, ap, ◌∙◌, subst, arith, length-append, length-take, rules}
 use borrow.Rule.Slice.PartMut.{put_mid}
 use Rattle.ledger.specs.Contents.{events_in}
 use Rattle.ledger.specs.Held.{sessions}

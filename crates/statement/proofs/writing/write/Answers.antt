@@ -1,4 +1,4 @@
-use Rattle.std.proofs.Common.{◌≡◌, ℕ, ◌+◌, ◌-◌, ◌≤◌, List, ◌++◌, length, take, sym, refl, ap, ◌∙◌, subst, ap₂, inl, inr, arith, length-append}
+use Rattle.std.proofs.Common.{◌≡◌, ◌+◌, ◌-◌, ◌++◌, length, take, refl, ap, ◌∙◌, subst, ap₂, inr, arith, length-append}
 use borrow.Rule.Slice.PartMut.{put_mid}
 use Rattle.ledger.specs.Contents.{events_in}
 use Rattle.ledger.specs.Held.{sessions}

@@ -1,4 +1,4 @@
-use Rattle.std.proofs.Common.{◌≡◌, length, ap, ◌∙◌, arith}
+use Rattle.std.proofs.Common.{length, ◌∙◌, arith}
 use Rattle.channel.specs.Places.{queue}
 use Rattle.channel.proofs.Queue.{queue_count, queue_past}
 use Rattle.channel.proofs.ring.Ring.start.Goals as goal

@@ -1,6 +1,5 @@
-use Rattle.std.proofs.Common.{◌≡◌, ◌+◌, ◌-◌, ◌++◌, length, take, drop, sym, ap, ◌∙◌, append-nil, arith}
+use Rattle.std.proofs.Common.{◌+◌, ◌-◌, ◌++◌, take, drop, sym, ap, ◌∙◌, append-nil, arith}
 use Rattle.channel.specs.Places.{places, queue}
-use Rattle.channel.specs.Ring.{contents}
 use Rattle.channel.proofs.Queue.{queue_ahead, queue_round}
 use Rattle.channel.proofs.ring.Ring.waiting.Goals as goal
 

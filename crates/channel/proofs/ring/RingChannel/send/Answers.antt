@@ -1,4 +1,4 @@
-use Rattle.std.proofs.Common.{◌≡◌, ◌+◌, ◌<◌, [], ◌∷◌, ◌++◌, length, set, Ok, Err, sym, refl, ap, ◌∙◌, inl, inr, arith, length-set, drop-set-lt, rules}
+use Rattle.std.proofs.Common.{◌+◌, ◌<◌, [], ◌∷◌, ◌++◌, length, set, Ok, Err, sym, refl, ap, ◌∙◌, inl, inr, arith, length-set, drop-set-lt, rules}
 use Rattle.channel.specs.Places.{most_places, places, queue}
 use Rattle.channel.specs.Ring.{Puts, TurnedAway, contents}
 use Rattle.channel.proofs.Queue.{End, laid, queue_put}

@@ -1,6 +1,3 @@
-use Rattle.std.proofs.Common.{sym, ap, ◌∙◌, subst, arith}
-use Rattle.decimal.specs.Decimal.{FixedText}
-use Rattle.ids.specs.Ids.{MessageWritten}
 use Rattle.ids.proofs.Leads.{attempt_last, number_leads, session_leads, station_leads, whole_message}
 use Rattle.ids.proofs.message.MessageId.read.Goals as goal
 

@@ -1,4 +1,4 @@
-use Rattle.std.proofs.Common.{◌≡◌, ◌+◌, ◌≤◌, length, sym, ap, ◌∙◌, subst, arith}
+use Rattle.std.proofs.Common.{◌≡◌, ◌+◌, sym, ap, subst, arith}
 use Rattle.json_text.specs.Machine.State.{live}
 use Rattle.json_text.specs.Machine.Mode.{chars}
 use Rattle.json_text.specs.Scanning.{mode_of, stack}

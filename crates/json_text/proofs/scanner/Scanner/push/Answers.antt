@@ -1,4 +1,4 @@
-use Rattle.std.proofs.Common.{◌≡◌, ◌<◌, ◌∷◌, length, sym, ap, ◌∙◌, arith}
+use Rattle.std.proofs.Common.{◌<◌, ◌∷◌, length, sym, ap, ◌∙◌, arith}
 use Rattle.json_text.specs.Machine.State.{live}
 use Rattle.json_text.specs.Scanning.{kind_of, mode_of, opened_in, stack}
 use Rattle.json_text.proofs.Stacks.{stack_push}

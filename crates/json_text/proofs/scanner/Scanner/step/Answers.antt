@@ -1,4 +1,4 @@
-use Rattle.std.proofs.Common.{◌≡◌, sym, ap, ◌∙◌, arith}
+use Rattle.std.proofs.Common.{ap, ◌∙◌, arith}
 use Rattle.json_text.specs.Machine.Mode.{after}
 use Rattle.json_text.specs.Machine.State.{live}
 use Rattle.json_text.specs.Scanning.{stack}

@@ -1,5 +1,4 @@
-use Rattle.std.proofs.Common.{◌≡◌, ◌-◌, ◌<◌, ◌≤◌, ◌++◌, length, take, drop, sym, ap, ◌∙◌, inl, inr, arith}
-use Rattle.layers.specs.Spool.{spooled}
+use Rattle.std.proofs.Common.{◌-◌, ◌<◌, ◌≤◌, ◌++◌, length, take, drop, sym, ap, ◌∙◌, inl, inr, arith}
 use Rattle.layers.proofs.Chains.{took_next}
 use Rattle.layers.proofs.Places.{take_again, taken_fits, turn_held}
 use Rattle.layers.proofs.spool.Spool.pass_down.Goals as goal

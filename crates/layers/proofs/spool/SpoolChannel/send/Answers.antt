@@ -1,8 +1,7 @@
-use Rattle.std.proofs.Common.{◌≡◌, ◌+◌, ◌<◌, ◌≤◌, ◌⊎◌, [], ◌∷◌, ◌++◌, length, take, set, Ok, Err, sym, refl, ap, ◌∙◌, inl, inr, arith}
+use Rattle.std.proofs.Common.{◌≡◌, ◌+◌, ◌<◌, [], ◌∷◌, ◌++◌, length, take, set, Ok, Err, sym, refl, ap, ◌∙◌, inl, inr, arith}
 use Rattle.layers.specs.Below.{free_of}
-use Rattle.layers.specs.Limits.{spool_places}
 use Rattle.layers.specs.Spool.{SpoolSends, spooled}
-use Rattle.layers.proofs.Places.{take_again, taken_fits}
+use Rattle.layers.proofs.Places.{take_again}
 use Rattle.layers.proofs.SpoolLaws.{laid, send_law}
 use Rattle.layers.proofs.spool.SpoolChannel.send.Goals as goal
 use Rattle.layers.proofs.spool.SpoolChannel.send.Goals.{else-count-eq0-via-then-count-eq0+else-free_count-gt0, else-count-eq0-via-else-count-eq0}

@@ -1,5 +1,5 @@
-use Rattle.std.proofs.Common.{◌≡◌, suc, ◌<◌, ◌≤◌, true, leb, length, get_or, take, sym, refl, ap, ◌∙◌, arith, rules}
-use Rattle.runs.proofs.Tables.{between_found, some_run, too_many, touches_found}
+use Rattle.std.proofs.Common.{◌≤◌, length, take, sym, refl, ◌∙◌, arith}
+use Rattle.runs.proofs.Tables.{between_found, too_many, touches_found}
 use Rattle.runs.specs.Places.{Between}
 use Rattle.runs.proofs.table.RunTable.add.Goals as goal
 use Rattle.runs.proofs.table.RunTable.add.Goals.{Joined-else-place-self, else-place-self-via-then-place-self+else-not-begins_after, else-place-self-via-else-place-self}

@@ -1,4 +1,4 @@
-use Rattle.std.proofs.Common.{◌≡◌, suc, ◌+◌, ◌-◌, ◌<◌, true, leb, length, get_or, take, set, sym, ◌∙◌, subst, arith, length-set, length-take, rules}
+use Rattle.std.proofs.Common.{◌≡◌, suc, ◌+◌, ◌-◌, ◌<◌, true, leb, get_or, take, set, sym, ◌∙◌, subst, arith, length-set, length-take}
 use borrow.Rule.Slice.PartMut.{put_mid, same_len_mid}
 use Rattle.runs.proofs.Tables.{joined_table, some_run, widened_table}
 use Rattle.runs.specs.Stretches.{Stretches, covers, with_number}

@@ -1,4 +1,4 @@
-use Rattle.std.proofs.Common.{◌≡◌, ◌+◌, ◌≤◌, true, [], ◌∷◌, ◌++◌, length, take, Some, None, sym, ap, ◌∙◌, subst, append-nil, arith, length-append, length-take}
+use Rattle.std.proofs.Common.{◌≡◌, ◌+◌, ◌≤◌, [], ◌∷◌, length, take, Some, None, sym, ap, ◌∙◌, subst, append-nil, arith, length-append, length-take}
 use Rattle.runs.proofs.Gaps.{gaps_from}
 use Rattle.runs.proofs.Tables.{gaps_all, gaps_ascend, gaps_next}
 use Rattle.runs.specs.declared.table.RunTable.{RunTable}

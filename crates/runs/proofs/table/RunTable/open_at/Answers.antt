@@ -1,4 +1,4 @@
-use Rattle.std.proofs.Common.{◌+◌, ◌-◌, length, take, set, ◌∙◌, arith, length-set, length-take, rules}
+use Rattle.std.proofs.Common.{◌+◌, ◌-◌, take, set, ◌∙◌, arith, length-set, length-take}
 use borrow.Rule.Slice.PartMut.{put_mid, same_len_mid}
 use Rattle.runs.proofs.Tables.{opened_table}
 use Rattle.runs.specs.Stretches.{Stretches, covers, with_number}

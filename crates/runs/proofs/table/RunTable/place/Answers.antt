@@ -1,4 +1,4 @@
-use Rattle.std.proofs.Common.{◌≡◌, ◌≤◌, length, sym, ◌∙◌, arith, rules}
+use Rattle.std.proofs.Common.{◌≤◌, length, sym, ◌∙◌, arith}
 use Rattle.runs.proofs.Tables.{place_found, place_last, place_more}
 use Rattle.runs.proofs.table.RunTable.place.Goals as goal
 

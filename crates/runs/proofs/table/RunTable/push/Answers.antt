@@ -1,4 +1,4 @@
-use Rattle.std.proofs.Common.{◌≡◌, true, sym, ◌∙◌, subst, arith}
+use Rattle.std.proofs.Common.{◌≡◌, true, sym, subst, arith}
 use Rattle.std.proofs.lemmas.List.{length-set, take_more_set}
 use Rattle.runs.specs.Stretches.{ascending}
 use Rattle.runs.proofs.table.RunTable.push.Goals as goal

@@ -1,4 +1,4 @@
-use Rattle.std.proofs.Common.{◌≡◌, List, ◌++◌, length, take, refl, ap, ◌∙◌, arith}
+use Rattle.std.proofs.Common.{◌≡◌, ◌++◌, length, take, refl, ap, ◌∙◌, arith}
 use Rattle.decimal.proofs.Widths.{length_fixed}
 use Rattle.decimal.specs.Decimal.{fixed}
 use Rattle.statement.proofs.Puts.{part_length, put_length, put_text}

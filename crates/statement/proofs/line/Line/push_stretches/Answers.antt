@@ -1,4 +1,4 @@
-use Rattle.std.proofs.Common.{◌-◌, ◌<◌, length, take, drop, arith, length-drop, length-take, ltb-false, ltb-true}
+use Rattle.std.proofs.Common.{◌-◌, ◌<◌, length, drop, arith, length-drop, length-take, ltb-false, ltb-true}
 use Rattle.statement.proofs.Puts.{comma_chained, stretches_chained}
 use Rattle.statement.proofs.line.Line.push_stretches.Goals as goal
 

@@ -1,4 +1,4 @@
-use Rattle.std.proofs.Common.{◌≡◌, ◌+◌, ◌*◌, ◌≤◌, ◌∷◌, ◌++◌, length, take}
+use Rattle.std.proofs.Common.{◌≡◌, ◌+◌, ◌*◌, ◌≤◌, ◌∷◌, ◌++◌, take}
 use Rattle.statement.specs.Lines.{stretch_text}
 use Rattle.std.specs.List.{flat_map}
 use Rattle.statement.proofs.line.Line.push_stretches.Given as goal
