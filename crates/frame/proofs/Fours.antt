@@ -41,7 +41,7 @@ nothing_left o None h left = left
 nothing_left o (Some x) h left = absurd (true≢false h)
 
 -- the value at a place of an array
-abbrev elems_of : Json → Elems
+abbrev pub elems_of : Json → Elems
 elems_of jnull = no_elem
 elems_of jtrue = no_elem
 elems_of jfalse = no_elem
@@ -50,11 +50,11 @@ elems_of (jstring s) = no_elem
 elems_of (jarray es) = es
 elems_of (jobject ms) = no_elem
 
-abbrev head_elem : Elems → Json
+abbrev pub head_elem : Elems → Json
 head_elem no_elem = jnull
 head_elem (elem e es) = e
 
-abbrev tail_elems : Elems → Elems
+abbrev pub tail_elems : Elems → Elems
 tail_elems no_elem = no_elem
 tail_elems (elem e es) = es
 

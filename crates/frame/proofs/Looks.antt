@@ -13,10 +13,10 @@ use Rattle.json_text.specs.Grammar.Json.{jobject}
 use Rattle.json_text.specs.Grammar.Membs.{no_memb, memb}
 use Rattle.std.specs.Str.{bytes_eq}
 
-same_true : (n called : List ℕ) → n ≡ called → bytes_eq n called ≡ true
+pub same_true : (n called : List ℕ) → n ≡ called → bytes_eq n called ≡ true
 same_true n called e = (bytes_eq-Decides n called).1 e
 
-same_false : (n called : List ℕ) → (n ≡ called → ⊥) → bytes_eq n called ≡ false
+pub same_false : (n called : List ℕ) → (n ≡ called → ⊥) → bytes_eq n called ≡ false
 same_false n called e = go (bytes_eq n called) refl
   where
     go : (t : Bool) → bytes_eq n called ≡ t → t ≡ false

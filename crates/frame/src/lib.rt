@@ -10,5 +10,6 @@ mod texts;
 
 pub use array::find_call;
 pub use call::Parts;
-pub use members::{find_member, optional, required};
+pub use members::{after, find_member, optional, required};
 pub use slot::Slot;
+pub use texts::{is_string, is_two, string_bytes};

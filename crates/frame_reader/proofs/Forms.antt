@@ -11,8 +11,8 @@ use Rattle.event.specs.declared.events.TriggerReason.{TriggerReason}
 use Rattle.event.specs.declared.events.TriggerReason.TheVariants.{CablePluggedIn, MeterValuePeriodic, EVDeparted}
 use Rattle.frame_reader.specs.Frame.{flag, reason_text, type_text}
 use Rattle.frame_reader.specs.Values.{NoNumber, NoTime, TimeIn}
-use Rattle.frame_reader.proofs.Openings.{opening}
-use Rattle.frame_reader.proofs.Scalars.{first_opens, number_bytes_are}
+use Rattle.frame.proofs.Openings.{opening}
+use Rattle.frame.proofs.Scalars.{first_opens, number_bytes_are}
 use Rattle.ids.specs.Ids.{id_text, message_id_text}
 use Rattle.json_text.specs.Grammar.{Json, Value}
 use Rattle.json_text.specs.Grammar.Json.{jnull, jtrue, jfalse, jnumber, jstring, jarray, jobject}

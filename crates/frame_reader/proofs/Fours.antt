@@ -1,29 +1,14 @@
 -- Counting an array's values as they are taken off. Assumes nothing.
-use Rattle.std.proofs.Common.{◌≡◌, ℕ, suc, ◌≤◌, true, false, List, ◌∷◌, is_some, Some, None, Option, sym, ap, ◌∙◌, subst, inl, inr, arith, Bor}
-use Rattle.frame_reader.proofs.Fronts.{front_in, head_elem}
+use Rattle.std.proofs.Common.{◌≡◌, ℕ, ◌≤◌, true, false, List, ◌∷◌, is_some, Some, None, Option, sym, ap, ◌∙◌, subst, inl, inr, arith, Bor}
+use Rattle.frame_reader.proofs.Fronts.{front_in}
+use Rattle.frame.proofs.Fours.{elems_of, head_elem, size, tail_elems}
 use Rattle.std.proofs.lemmas.Bool.{false≢true, true≢false}
-use Rattle.frame_reader.specs.Call.{NotFour, array_of_four}
+use Rattle.frame.specs.Call.{array_of_four}
 use Rattle.frame_reader.specs.Walks.{AheadIn, BehindIn, LeftIn}
 use Rattle.json_text.specs.Parts.{skip}
 use Rattle.json_text.specs.Grammar.{Elems, Json}
 use Rattle.json_text.specs.Grammar.Elems.{no_elem, elem}
-use Rattle.json_text.specs.Grammar.Json.{jnull, jtrue, jfalse, jnumber, jstring, jarray, jobject}
-
-abbrev pub size : Elems → ℕ
-size no_elem = 0
-size (elem e es) = suc (size es)
-
-abbrev pub size_of : Json → ℕ
-size_of jnull = 0
-size_of jtrue = 0
-size_of jfalse = 0
-size_of (jnumber n) = 0
-size_of (jstring s) = 0
-size_of (jarray es) = size es
-size_of (jobject ms) = 0
-
-pub not_four : (tree : Json) → (size_of tree ≡ 4 → ⊥) → NotFour tree
-not_four tree h a b c d is = h (ap size_of is)
+use Rattle.json_text.specs.Grammar.Json.{jarray}
 
 -- the next one can be taken off where something is left
 pub ahead_of : (o : Elems) (end : List ℕ) (rest : Option (Bor (List ℕ))) (x : Bor (List ℕ)) → LeftIn o end rest → rest ≡ Some x → AheadIn o x.now end
@@ -50,20 +35,6 @@ pub goes_on : (others : Elems) (b behind end : List ℕ) → b ≡ behind → ((
 goes_on others b behind end e none (inl (no_more, close)) = absurd (none end (ap skip e ∙ close))
 goes_on others b behind end e none (inr (rest, comma, ahead)) = ahead_some others rest end ahead
 
--- the value at a place of an array
-abbrev elems_of : Json → Elems
-elems_of jnull = no_elem
-elems_of jtrue = no_elem
-elems_of jfalse = no_elem
-elems_of (jnumber n) = no_elem
-elems_of (jstring s) = no_elem
-elems_of (jarray es) = es
-elems_of (jobject ms) = no_elem
-
-abbrev tail_elems : Elems → Elems
-tail_elems no_elem = no_elem
-tail_elems (elem e es) = es
-
 -- an array of four has these four and no others
 pub same_front : (tree a b c d : Json) (others : Elems) (p q r s : Json) → tree ≡ jarray (elem a (elem b (elem c (elem d others)))) → tree ≡ array_of_four p q r s
     → (a ≡ p) × (b ≡ q) × (c ≡ r) × (d ≡ s) × (others ≡ no_elem)
@@ -71,6 +42,3 @@ same_front tree a b c d others p q r s e f =
     let g = sym e ∙ f in
     let tails : Json → Elems = λ t. tail_elems (tail_elems (tail_elems (elems_of t))) in
     (ap (λ t. head_elem (elems_of t)) g, ap (λ t. head_elem (tail_elems (elems_of t))) g, ap (λ t. head_elem (tail_elems (tail_elems (elems_of t)))) g, ap (λ t. head_elem (tails t)) g, ap (λ t. tail_elems (tails t)) g)
-
-pub same_four : (tree a b c d p q r s : Json) → tree ≡ array_of_four a b c d → tree ≡ array_of_four p q r s → (a ≡ p) × (b ≡ q) × (c ≡ r) × (d ≡ s)
-same_four tree a b c d p q r s e f = let g = same_front tree a b c d no_elem p q r s e f in (g.0, g.1, g.2, g.3)

@@ -1,32 +1,22 @@
 -- The front of what is left of an object or an array. Assumes nothing.
-use Rattle.std.proofs.Common.{◌≡◌, ℕ, suc, ◌<◌, ◌≤◌, Bool, true, false, cond, eqb, ◌⊎◌, List, [], ◌∷◌, ◌++◌, length, get_or, drop, IfSome, Some, None, Option, sym, refl, ap, ◌∙◌, subst, inl, inr, ⊎_elim, append_assoc, arith, Bor, MatchOption}
-use Rattle.frame_reader.specs.Kinds.{At}
+use Rattle.std.proofs.Common.{◌≡◌, ℕ, true, false, eqb, ◌⊎◌, List, [], ◌∷◌, ◌++◌, get_or, drop, Some, None, Option, sym, refl, ap, ◌∙◌, subst, inl, inr, ⊎_elim, append_assoc, arith, Bor, MatchOption}
+use Rattle.frame.specs.Kinds.{At}
+use Rattle.frame.proofs.Fours.{head_elem}
+use Rattle.frame.proofs.Fronts.{some_elem}
 use Rattle.frame_reader.specs.Walks.{AheadIn, Begins, Behind, BehindIn, FirstObject, LeftIn, NoObject, Opened}
-use Rattle.frame_reader.proofs.Openings.{array_by, object_by, opening, opens}
+use Rattle.frame.proofs.Openings.{array_by, object_by, opening, opens}
 use Rattle.json_text.specs.Grammar.Each.{no_byte}
-use Rattle.std.proofs.lemmas.Bool.{eqb-false, false≢true}
+use Rattle.std.proofs.lemmas.Bool.{eqb-false}
 use Rattle.json_text.proofs.Complete.{split_element, split_member}
 use Rattle.json_text.proofs.Unique.{no_bracket, skip_white, stands, white_follows}
-use Rattle.json_text.specs.Grammar.{Chars, Elements, Elems, Json, Members, Membs, Value, White, white}
+use Rattle.json_text.specs.Grammar.{Chars, Elements, Elems, Json, Members, Membs, Value, White}
 use Rattle.json_text.specs.Grammar.Elements.{last_element, next_element}
 use Rattle.json_text.specs.Grammar.Elems.{no_elem, elem}
-use Rattle.json_text.specs.Grammar.Json.{jarray, jnull, jobject}
+use Rattle.json_text.specs.Grammar.Json.{jarray, jobject}
 use Rattle.json_text.specs.Grammar.Value.{empty_array, empty_object, is_array, is_object}
 use Rattle.json_text.specs.Grammar.Members.{last_member, next_member}
 use Rattle.json_text.specs.Grammar.Membs.{no_memb, memb}
 use Rattle.json_text.specs.Parts.{Follows, Split, skip}
-
-pub first_rest : (s : List ℕ) (b : ℕ) → 0 < length s → get_or s 0 0 ≡ b → s ≡ b ∷ drop 1 s
-first_rest [] b h e = absurd (omega arith)
-first_rest (a ∷ s) b h e = ap (λ x. x ∷ s) e
-
-pub skip_short : (s : List ℕ) → length (skip s) ≤ length s
-skip_short [] = omega arith
-skip_short (b ∷ s) = go (white b) (skip_short s)
-  where
-    go : (t : Bool) → length (skip s) ≤ length s → length (cond t (skip s) (b ∷ s)) ≤ suc (length s)
-    go true short = omega (arith, short)
-    go false short = omega arith
 
 -- the first member, and what follows its name
 pub record Front (ms : Membs) (s end : List ℕ) : Type 0 where
@@ -69,11 +59,6 @@ front ms bs end s whole (next_member {n} {e} {u} {y} {w} {v} {x} {ms = others} {
     (whole ∙ split_member u n y w v (x ++ (44 ∷ more)) (125 ∷ end) ∙ ap (λ l. u ++ (34 ∷ (n ++ (34 ∷ (y ++ (58 ∷ (w ++ (v ++ l)))))))) (append_assoc x (44 ∷ more) (125 ∷ end)))
     refl u-is n-is y-is w-is v-is (white_follows 44 (more ++ (125 ∷ end)) x-is refl)
     (inr (more ++ (125 ∷ end), skip_white (44 ∷ (more ++ (125 ∷ end))) x-is, record { bytes = more; whole = refl; is = rest-are }))
-
--- what is shorter than a part is shorter than the whole
-pub shorter_from : (o : Option (Bor (List ℕ))) (m n : ℕ) → m ≤ n → IfSome o (λ x. length x.now < m) → IfSome o (λ x. length x.now < n)
-shorter_from None m n h s = tt
-shorter_from (Some x) m n h s = omega arith
 
 -- bytes have one first byte
 pub two_firsts : (s : List ℕ) (a b : ℕ) (q r : List ℕ) → eqb a b ≡ false → s ≡ a ∷ q → s ≡ b ∷ r → ⊥
@@ -186,23 +171,6 @@ inside_array tree es s at is =
 pub inside_begun : (tree : Json) (es : Elems) (s behind : List ℕ) → Begins tree s behind → tree ≡ jarray es → InsideArray es s behind
 unfolding skipped
 inside_begun tree es s behind b is = inside_value es s b.value behind (skipped b).whole (subst (λ t. Value t b.value) is b.is)
-
--- the first byte after white space is the value's
-pub opens_at : (t : Json) (s : List ℕ) (b : ℕ) (rest : List ℕ) → At t s → skip s ≡ b ∷ rest → opening t b ≡ true
-opens_at t s b rest at e =
-    let same : skip s ≡ at.value ++ at.behind = ap skip at.whole ∙ stands at.behind at.white at.is in
-    subst (λ x. opening t x ≡ true) (ap (λ l. get_or l 0 0) (sym same ∙ e)) (opens at.behind at.is)
-
-abbrev none_in : Elems → Bool
-none_in no_elem = true
-none_in (elem e es) = false
-
-pub some_elem : (e : Json) (es : Elems) → elem e es ≡ no_elem → ⊥
-some_elem e es h = false≢true (ap none_in h)
-
-abbrev pub head_elem : Elems → Json
-head_elem no_elem = jnull
-head_elem (elem e es) = e
 
 -- an array that begins with an object, by its first two bytes
 pub first_cases : (tree : Json) (s behind first : List ℕ) (o : Option (Bor (List ℕ))) → Begins tree s behind → skip s ≡ 91 ∷ first

@@ -1,8 +1,6 @@
 pub mod Fronts
 pub mod Looks
-pub mod Openings
 pub mod Fours
-pub mod Scalars
 pub mod Onlys
 pub mod Forms
 pub mod Told

@@ -1,12 +1,11 @@
 -- A look for a name, member by member. Assumes nothing.
-use Rattle.std.proofs.Common.{◌≡◌, ℕ, suc, ◌+◌, ◌<◌, ◌≤◌, Bool, true, false, List, [], ◌∷◌, length, drop, Some, None, Option, Result, sym, refl, ap, ◌∙◌, subst, arith, Bor, MatchOption, MatchResult}
-use Rattle.std.proofs.lemmas.Slice.Eq.{bytes_eq-Decides}
-use Rattle.std.proofs.lemmas.List.{append_cancel_right}
+use Rattle.std.proofs.Common.{◌≡◌, ℕ, suc, ◌+◌, ◌<◌, ◌≤◌, false, List, length, Some, None, Option, Result, sym, refl, ap, ◌∙◌, subst, arith, Bor, MatchOption, MatchResult}
 use Rattle.std.proofs.lemmas.Bool.{cond-false, cond-true, true≢false}
-use Rattle.frame_reader.specs.Members.{count, under}
+use Rattle.frame.specs.Members.{count, under}
 use Rattle.frame_reader.specs.Lefts.{Shorter, bytes_of}
 use Rattle.frame_reader.specs.Slots.{Found, SoFar, added, optional_of, required_of}
-use Rattle.frame_reader.specs.Walks.{LeftOf, Opened, quoted}
+use Rattle.frame_reader.specs.Walks.{LeftOf, Opened}
+use Rattle.frame.proofs.Looks.{same_false, same_true}
 use Rattle.frame_reader.specs.declared.left.Left.{Left}
 use Rattle.frame_reader.specs.declared.left.Left.TheVariants.{More, Past}
 use Rattle.frame_reader.specs.declared.slot.Slot.{Slot}
@@ -16,16 +15,6 @@ use Rattle.json_text.specs.Grammar.Membs.{no_memb, memb}
 use Rattle.refusal.specs.declared.Refusal.{Refusal}
 use Rattle.refusal.specs.declared.Refusal.TheVariants.{BadMembers}
 use Rattle.std.specs.Str.{bytes_eq}
-
-same_true : (n called : List ℕ) → n ≡ called → bytes_eq n called ≡ true
-same_true n called e = (bytes_eq-Decides n called).1 e
-
-same_false : (n called : List ℕ) → (n ≡ called → ⊥) → bytes_eq n called ≡ false
-same_false n called e = go (bytes_eq n called) refl
-  where
-    go : (t : Bool) → bytes_eq n called ≡ t → t ≡ false
-    go true h = absurd (e ((bytes_eq-Decides n called).0 h))
-    go false h = refl
 
 -- a walk through an object from after its brace: how much is left, and what was found so far
 abbrev pub Within : List ℕ → Left → Type 0
@@ -90,10 +79,6 @@ pub pass : {T : Type 0} (right : Json → T → Type 0) (found : Slot T) (word c
     → others ≡ memb n tree more → n ≡ word → bytes_eq word called ≡ false → SoFar right found called ms others → SoFar right found called ms more
 pass right found word called ms others n tree more is e ne far =
     miss right found called ms others n tree more is (λ q. true≢false (sym (same_true word called (sym e ∙ q)) ∙ ne)) far
-
--- names are the same where they are with their quotes
-pub unquoted : (n called : List ℕ) → quoted n ≡ quoted called → n ≡ called
-unquoted n called e = append_cancel_right n called (34 ∷ []) (ap (drop 1) e)
 
 -- a name that must stand once does, with a value of which this was found, or does not
 abbrev pub Required : {T : Type 0} → (Json → T → Type 0) → List ℕ → Membs → Result T Refusal → Type 0

@@ -6,9 +6,10 @@ use Rattle.frame_reader.specs.Slots.{Bytes, Under}
 use Rattle.frame_reader.specs.declared.fields.Meter.TheVariants.{Unreadable}
 use Rattle.frame_reader.specs.declared.fields.Sample.{Sample}
 use Rattle.frame_reader.proofs.Looks.{Optional}
-use Rattle.frame_reader.specs.Members.{chain, element_of, element_under, members_of, only_of, under}
+use Rattle.frame_reader.specs.Members.{chain, element_of, element_under}
+use Rattle.frame.specs.Members.{members_of, only_of, under}
 use Rattle.frame_reader.specs.Walks.{NoObject}
-use Rattle.frame_reader.proofs.Fours.{size}
+use Rattle.frame.proofs.Fours.{size}
 use Rattle.json_text.specs.Grammar.{Elems, Json, Membs, Value}
 use Rattle.json_text.specs.Grammar.Elems.{no_elem, elem}
 use Rattle.json_text.specs.Grammar.Json.{jnull, jtrue, jfalse, jnumber, jstring, jarray, jobject}

@@ -10,14 +10,15 @@ use Rattle.event.specs.declared.events.EventType.TheVariants.{Started, Updated, 
 use Rattle.event.specs.declared.events.Transmission.{Transmission}
 use Rattle.event.specs.declared.events.TriggerReason.{TriggerReason}
 use Rattle.event.specs.declared.events.TriggerReason.TheVariants.{CablePluggedIn, MeterValuePeriodic, EVDeparted}
-use Rattle.frame_reader.specs.Call.{Call, NoCall}
+use Rattle.frame.specs.Call.{Call, NoCall}
 use Rattle.frame_reader.specs.Frame.{Called, Frame, Named, Parsed, Reads, ReadsAs, Refused, Says, Tells, Timed, flag, longest, reason_text, type_text}
 use Rattle.frame_reader.specs.Frame.Refused.{too_long, too_deep, not_json, not_a_frame, bad_members, bad_value}
-use Rattle.frame_reader.specs.Kinds.{At}
-use Rattle.frame_reader.specs.Members.{element_of, element_under, under}
+use Rattle.frame.specs.Kinds.{At}
+use Rattle.frame_reader.specs.Members.{element_of, element_under}
+use Rattle.frame.specs.Members.{under}
 use Rattle.frame_reader.specs.Reading.{RegisterTold, SmallRegister}
 use Rattle.frame_reader.proofs.Forms.{same_string}
-use Rattle.frame_reader.proofs.Fours.{same_four}
+use Rattle.frame.proofs.Fours.{same_four}
 use Rattle.frame_reader.proofs.Onlys.{not_both, same_some}
 use Rattle.ids.proofs.Leads.{SameNumbers, same_message}
 use Rattle.ids.specs.Ids.{MessageWritten}

@@ -2,7 +2,8 @@
 use Rattle.std.proofs.Common.{◌≡◌, ℕ, ◌≤◌, List, Some, None, codes, decimal, Option, sym, refl, ap, ◌∙◌, subst, MatchOption}
 use Rattle.event.specs.Lawful.{largest_register}
 use Rattle.frame_reader.specs.Fields.{MeterOf, NoSample, SampleIn}
-use Rattle.frame_reader.specs.Members.{element_of, element_under, under}
+use Rattle.frame_reader.specs.Members.{element_of, element_under}
+use Rattle.frame.specs.Members.{under}
 use Rattle.frame_reader.specs.Reading.{MeasuresRegister, NoRegister, NoSampled, RegisterIs, RegisterTold, SampleTells, SmallRegister}
 use Rattle.frame_reader.specs.Slots.{Under}
 use Rattle.frame_reader.specs.Values.{NoNumber}

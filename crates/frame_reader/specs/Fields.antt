@@ -2,7 +2,8 @@
 use Rattle.std.specs.Prelude.{◌≡◌, ℕ, List, IfSome, Some, None, Ok, Err, codes, Option, Result, MatchOption, MatchResult, ◌≢◌}
 use Rattle.std.specs.Borrow.{Bor}
 use Rattle.frame_reader.specs.Frame.{May, Must, Named, NamedMeter, NamedSample}
-use Rattle.frame_reader.specs.Members.{element_of, element_under, members_of, under}
+use Rattle.frame_reader.specs.Members.{element_of, element_under}
+use Rattle.frame.specs.Members.{members_of, under}
 use Rattle.frame_reader.specs.Slots.{Under}
 use Rattle.frame_reader.specs.declared.fields.Fields.{Fields}
 use Rattle.frame_reader.specs.declared.fields.Meter.{Meter}

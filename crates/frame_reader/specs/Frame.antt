@@ -8,8 +8,9 @@ use Rattle.event.specs.declared.events.EventType.TheVariants.{Started, Updated, 
 use Rattle.event.specs.declared.events.Transmission.{Transmission}
 use Rattle.event.specs.declared.events.TriggerReason.{TriggerReason}
 use Rattle.event.specs.declared.events.TriggerReason.TheVariants.{CablePluggedIn, MeterValuePeriodic, EVDeparted}
-use Rattle.frame_reader.specs.Call.{Call, NoCall}
-use Rattle.frame_reader.specs.Members.{count, element_under, object_under, under}
+use Rattle.frame.specs.Call.{Call, NoCall}
+use Rattle.frame_reader.specs.Members.{element_under, object_under}
+use Rattle.frame.specs.Members.{count, under}
 use Rattle.ids.specs.Ids.{id_text, message_id_text}
 use Rattle.json_text.specs.Beginnings.{Deep, IsJson}
 use Rattle.json_text.specs.Grammar.{Json, Membs, Text}

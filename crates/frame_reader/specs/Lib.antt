@@ -2,8 +2,6 @@ pub mod Members
 pub mod Lefts
 pub mod Walks
 pub mod Slots
-pub mod Kinds
-pub mod Call
 pub mod Frame
 pub mod Fields
 pub mod Payload

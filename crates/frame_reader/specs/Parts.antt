@@ -1,6 +1,6 @@
 -- What is found of the array of four. Assumes nothing.
 use Rattle.std.specs.Prelude.{◌≡◌, ℕ, List}
-use Rattle.frame_reader.specs.Call.{Call}
+use Rattle.frame.specs.Call.{Call}
 use Rattle.frame_reader.specs.Payload.{FoundAll}
 use Rattle.frame_reader.specs.Walks.{Begins, BehindIn}
 use Rattle.frame_reader.specs.declared.call.Four.{Four}

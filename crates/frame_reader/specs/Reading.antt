@@ -3,7 +3,7 @@ use Rattle.std.specs.Prelude.{◌≡◌, ℕ, ◌≤◌, Bool, false, IfSome, So
 use Rattle.event.specs.Lawful.{Lawful, largest_register}
 use Rattle.event.specs.declared.events.Event.{Event}
 use Rattle.frame_reader.specs.Frame.{Sampled, Tells, flag, measurand_text}
-use Rattle.frame_reader.specs.Members.{under}
+use Rattle.frame.specs.Members.{under}
 use Rattle.ids.specs.declared.MessageId.{MessageId}
 use Rattle.json_text.specs.Grammar.{Json, Membs}
 use Rattle.json_text.specs.Grammar.Json.{jnumber, jstring}

@@ -1,7 +1,7 @@
 -- What a look for a name finds among the members of an object. Assumes nothing.
 use Rattle.std.specs.Prelude.{◌≡◌, ℕ, ◌+◌, ◌≤◌, List, Some, None, Ok, Err, Option, Result}
 use Rattle.std.specs.Borrow.{Bor}
-use Rattle.frame_reader.specs.Members.{count, under}
+use Rattle.frame.specs.Members.{count, under}
 use Rattle.frame_reader.specs.declared.slot.Slot.{Slot}
 use Rattle.frame_reader.specs.declared.slot.Slot.TheVariants.{Missing, Once, Twice}
 use Rattle.json_text.specs.Grammar.{Json, Membs, Value}

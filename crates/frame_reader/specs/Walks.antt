@@ -1,6 +1,7 @@
 -- The steps of a walk through values, objects and arrays. Assumes nothing.
-use Rattle.std.specs.Prelude.{◌≡◌, ℕ, ◌⊎◌, List, [], ◌∷◌, ◌++◌, Option, MatchOption, ◌≢◌}
+use Rattle.std.specs.Prelude.{◌≡◌, ℕ, ◌⊎◌, List, ◌∷◌, ◌++◌, Option, MatchOption, ◌≢◌}
 use Rattle.std.specs.Borrow.{Bor}
+use Rattle.frame.specs.Walks.{quoted}
 use Rattle.frame_reader.specs.declared.left.Left.{Left}
 use Rattle.frame_reader.specs.declared.left.Left.TheVariants.{More, Past}
 use Rattle.json_text.specs.Grammar.{Elements, Elems, Json, Members, Membs, Value}
@@ -8,10 +9,6 @@ use Rattle.json_text.specs.Grammar.Elems.{no_elem, elem}
 use Rattle.json_text.specs.Grammar.Json.{jarray, jobject}
 use Rattle.json_text.specs.Grammar.Membs.{no_memb, memb}
 use Rattle.json_text.specs.Parts.{Follows, skip}
-
--- a name as it is written
-abbrev pub quoted : List ℕ → List ℕ
-quoted name = 34 ∷ (name ++ (34 ∷ []))
 
 -- the bytes begin with the value, and this is behind it
 pub record Begins (tree : Json) (s behind : List ℕ) : Type 0 where
@@ -86,10 +83,6 @@ pub record Values (tree : Json) (s : List ℕ) : Type 0 where
   pub end : List ℕ
   pub is : tree ≡ jarray values
   pub ahead : AheadIn values s end
-
--- the value is no array, or an empty one
-abbrev pub NoValues : Json → Type 0
-NoValues tree = (e : Json) (es : Elems) → tree ≢ jarray (elem e es)
 
 -- the value is an array that begins with an object, and the bytes stand after its brace
 pub record FirstObject (tree : Json) (s end : List ℕ) : Type 0 where

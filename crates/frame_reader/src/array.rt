@@ -1,15 +1,14 @@
 // Finds the array of four.
-ghost use Rattle.frame_reader.specs.Call.{NoCall, NotFour};
-ghost use Rattle.frame_reader.specs.Kinds.{At};
+ghost use Rattle.frame.specs.Call.{NoCall, NotFour};
+ghost use Rattle.frame.specs.Kinds.{At};
 ghost use Rattle.frame_reader.specs.Parts.{CallOf, FourOf};
 ghost use Rattle.json_text.specs.Grammar.{Json};
 ghost use Rattle.std.specs.Option.{MatchOption};
 
 use crate::call::{Four, Parts};
 use crate::elements::{first_element, next_element};
-use crate::members::after;
 use crate::payload::find_all;
-use crate::texts::{is_string, is_two, string_bytes};
+use frame::{after, is_string, is_two, string_bytes};
 use json_text::skip_white;
 
 // The first three values of the array at the front and what begins with the fourth, or none where it has fewer.

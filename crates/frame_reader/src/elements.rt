@@ -1,10 +1,11 @@
 // The values of an array in a text that is known to be JSON.
 ghost use Rattle.std.specs.Prelude.{ℕ, List, MatchOption};
-ghost use Rattle.frame_reader.specs.Kinds.{At};
-ghost use Rattle.frame_reader.specs.Walks.{AheadIn, NoValues, TakenOff, Values};
+ghost use Rattle.frame.specs.Kinds.{At};
+ghost use Rattle.frame_reader.specs.Walks.{AheadIn, TakenOff, Values};
+ghost use Rattle.frame.specs.Walks.{NoValues};
 ghost use Rattle.json_text.specs.Grammar.{Elems, Json};
 
-use crate::members::after;
+use frame::after;
 use json_text::{skip_white, split_value};
 
 // A value and what follows the comma after it, or nothing where it was the last.

@@ -6,8 +6,9 @@ ghost use Rattle.frame_reader.specs.Walks.{Through};
 ghost use Rattle.json_text.specs.Grammar.{Membs};
 ghost use Rattle.json_text.specs.Grammar.Json.{jobject};
 
-use crate::members::{after, cut, find_member};
+use crate::members::{cut, find_member};
 use crate::slot::Slot;
+use frame::after;
 use refusal::Refusal;
 
 // The id by what stands under its name.

@@ -13,7 +13,6 @@ mod payload;
 mod reader;
 mod reading;
 mod slot;
-mod texts;
 mod values;
 
 pub use reader::read;

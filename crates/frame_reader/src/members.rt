@@ -2,27 +2,17 @@
 ghost use Rattle.std.specs.Prelude.{◌≡◌, ℕ, ◌<◌, ◌≤◌, List, ◌∷◌, length, IfSome, MatchOption, ◌≢◌};
 ghost use Rattle.frame_reader.specs.Lefts.{Shorter, bytes_of};
 ghost use Rattle.frame_reader.specs.Slots.{Bytes, Found, SoFar};
-ghost use Rattle.frame_reader.specs.Walks.{Ahead, Behind, LeftOf, Opened, Taken, Through, ThroughObject, quoted};
+ghost use Rattle.frame_reader.specs.Walks.{Ahead, Behind, LeftOf, Opened, Taken, Through, ThroughObject};
+ghost use Rattle.frame.specs.Walks.{quoted};
 ghost use Rattle.json_text.specs.Grammar.{Membs, Value};
 ghost use Rattle.json_text.specs.Parts.{skip};
 
 use crate::left::Left;
 use crate::slot::Slot;
+use frame::after;
 use json_text::{skip_white, split_value};
 
-// What follows the byte, where the bytes begin with it after white space.
-pub fn after<'a>(s: &'a [u8], byte: u8) -> Option<&'a [u8]>
-    ensures found { MatchOption result ((rest : List ℕ) → skip s.now ≢ byte ∷ rest) (λ x. skip s.now ≡ byte ∷ x.now) }
-    ensures shorter { IfSome result (λ x. length x.now < length s.now) }
-{
-    let s = skip_white(s);
-    if s.is_empty() || s[0] != byte {
-        return None;
-    }
-    Some(&s[1..])
-}
-
-// The same, where they are known to begin with it.
+// What follows the byte, where they are known to begin with it after white space.
 fn past<'a>(s: &'a [u8], byte: u8) -> &'a [u8]
     ensures found { (rest : List ℕ) → skip s.now ≡ byte ∷ rest → result.now ≡ rest }
     ensures bound { length result.now ≤ length s.now }

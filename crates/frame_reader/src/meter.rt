@@ -7,8 +7,9 @@ ghost use Rattle.json_text.specs.Grammar.{Json, Membs};
 
 use crate::fields::Sample;
 use crate::left::Left;
-use crate::members::{after, cut, first_member, next_member, note, take_name};
+use crate::members::{cut, first_member, next_member, note, take_name};
 use crate::slot::Slot;
+use frame::after;
 use refusal::Refusal;
 
 // What stands after the brace, where the value at the front is an array that begins with an object.

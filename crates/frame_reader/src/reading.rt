@@ -5,14 +5,14 @@ ghost use Rattle.event.specs.declared.events.Transmission.{Transmission as Sent}
 ghost use Rattle.frame_reader.specs.Fields.{FieldsOf, MeterOf, SampleOf, ValueIf};
 ghost use Rattle.frame_reader.specs.Frame.{Says};
 ghost use Rattle.frame_reader.specs.Reading.{EventTold, FlagIs, MeasuresRegister, NoEvent, NoRegister, NoSampled, RegisterIs, SampleTells, SmallRegister};
-ghost use Rattle.frame_reader.specs.Members.{under};
+ghost use Rattle.frame.specs.Members.{under};
 ghost use Rattle.ids.specs.Ids.{MessageWritten};
 ghost use Rattle.json_text.specs.Grammar.{Json, Membs};
 
 use crate::fields::{Fields, Meter, Sample};
-use crate::texts::is_string;
 use crate::values::{event_type, is_front, number, time, trigger_reason, truth};
 use event::{Event, Register, Transmission};
+use frame::is_string;
 use ids::MessageId;
 
 // The flag; a missing one is false.

@@ -9,9 +9,9 @@ ghost use Rattle.ids.specs.Ids.{id_text, message_id_text};
 ghost use Rattle.json_text.specs.Grammar.{Json, Value};
 ghost use Rattle.json_text.specs.Grammar.Json.{jnumber, jstring};
 
-use crate::texts::{is_string, string_bytes};
 use decimal::plain_value;
 use event::{EventType, LARGEST_REGISTER, TriggerReason};
+use frame::{is_string, string_bytes};
 
 pub fn event_type(value: &[u8]) -> Option<EventType>
     ensures { (tree : Json) → Value tree value.now → MatchOption result ((kind : Kind) → tree ≢ jstring (type_text kind)) (λ kind. tree ≡ jstring (type_text kind)) }

@@ -1,7 +1,7 @@
 -- No beginning of a compact text is nested deeper than its tree is high. Assumes nothing.
 use Rattle.std.proofs.Common.{◌≡◌, ℕ, zero, suc, ◌+◌, ◌≤◌, max, Bool, true, not, ◌&&◌, eqb, List, [], ◌∷◌, ◌++◌, take, codes, sym, refl, ap, subst, subst₂, append_assoc, append-nil, arith}
 use Rattle.std.proofs.lemmas.Bool.Decides.{nat_tests}
-use Rattle.frame_reader.specs.Walks.{quoted}
+use Rattle.frame.specs.Walks.{quoted}
 use Rattle.frame_writer.proofs.Values.{Sound, SoundMembers, SoundValues}
 use Rattle.frame_writer.specs.Compact.{compact, members, other_members, other_values, values}
 use Rattle.json_text.proofs.Unique.{number_numeric, numeric}

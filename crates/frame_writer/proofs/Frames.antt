@@ -8,7 +8,8 @@ use Rattle.event.specs.declared.events.EventType.{EventType}
 use Rattle.event.specs.declared.events.EventType.TheVariants.{Updated}
 use Rattle.event.specs.declared.events.Transmission.{Transmission}
 use Rattle.frame_reader.specs.Frame.{Frame, Named, NamedMeter, NamedPayload, Sampled, Tells, flag, longest}
-use Rattle.frame_reader.specs.Members.{element_under, under}
+use Rattle.frame_reader.specs.Members.{element_under}
+use Rattle.frame.specs.Members.{under}
 use Rattle.frame_writer.proofs.Depths.{compact_depth, height, members_height}
 use Rattle.frame_writer.proofs.Texts.{decimal_number, id_chars, message_id_chars, reason_chars, stamp_chars, two_number, type_chars, word_chars}
 use Rattle.frame_writer.proofs.Values.{Sound, SoundMembers, text_is}

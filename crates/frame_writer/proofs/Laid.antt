@@ -6,7 +6,7 @@ use Rattle.decimal.specs.Decimal.{fixed}
 use Rattle.draft.proofs.Chains.{whole}
 use Rattle.event.specs.declared.events.Event.{Event}
 use Rattle.event.specs.declared.events.Transmission.{Transmission}
-use Rattle.frame_reader.specs.Call.{array_of_four}
+use Rattle.frame.specs.Call.{array_of_four}
 use Rattle.frame_reader.specs.Frame.{flag, reason_text, type_text}
 use Rattle.frame_writer.specs.Compact.{compact, members, other_members}
 use Rattle.frame_writer.specs.Tree.{bytes_of, message_id, meter_value, payload, payload_with}

@@ -1,6 +1,6 @@
 -- The compact text of a tree is a text of it. Assumes nothing.
 use Rattle.std.proofs.Common.{◌≡◌, ℕ, List, [], ◌∷◌, ◌++◌, sym, ap, subst, append_assoc, append-nil}
-use Rattle.frame_reader.specs.Walks.{quoted}
+use Rattle.frame.specs.Walks.{quoted}
 use Rattle.frame_writer.specs.Compact.{compact, members, other_members, other_values, values}
 use Rattle.json_text.specs.Grammar.{Chars, Elements, Elems, Json, Members, Membs, Number, Text, Value}
 use Rattle.json_text.specs.Grammar.Each.{no_byte}

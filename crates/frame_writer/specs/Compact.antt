@@ -1,6 +1,6 @@
 -- The text of a JSON value without white space. Assumes nothing.
 use Rattle.std.specs.Prelude.{ℕ, List, [], ◌∷◌, ◌++◌, codes}
-use Rattle.frame_reader.specs.Walks.{quoted}
+use Rattle.frame.specs.Walks.{quoted}
 use Rattle.json_text.specs.Grammar.{Elems, Json, Membs}
 use Rattle.json_text.specs.Grammar.Elems.{no_elem, elem}
 use Rattle.json_text.specs.Grammar.Json.{jnull, jtrue, jfalse, jnumber, jstring, jarray, jobject}

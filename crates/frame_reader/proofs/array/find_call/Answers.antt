@@ -1,8 +1,9 @@
 use Rattle.std.proofs.Common.{codes, sym, refl, ap, ◌∙◌, arith}
-use Rattle.frame_reader.proofs.Fours.{nothing_left, same_front, size, some_left}
+use Rattle.frame_reader.proofs.Fours.{nothing_left, same_front, some_left}
+use Rattle.frame.proofs.Fours.{size}
 use Rattle.frame_reader.proofs.array.find_call.Goals as goal
 use Rattle.frame_reader.proofs.Fronts.{braced, more_in, opened, opens_with, skipped}
-use Rattle.frame_reader.proofs.Openings.{object_by}
+use Rattle.frame.proofs.Openings.{object_by}
 use Rattle.json_text.specs.Grammar.Elems.{elem}
 use Rattle.json_text.specs.Grammar.Json.{jarray}
 use Rattle.std.proofs.lemmas.Bool.{true≢false}

@@ -1,7 +1,8 @@
 use Rattle.std.proofs.Common.{sym, ap, ◌∙◌, subst, arith}
 use Rattle.frame_reader.proofs.Fronts.{front_in}
 use Rattle.frame_reader.specs.Walks.{Begins}
-use Rattle.frame_reader.proofs.Fours.{ahead_of, none_left, not_four, size, size_of}
+use Rattle.frame_reader.proofs.Fours.{ahead_of, none_left}
+use Rattle.frame.proofs.Fours.{not_four, size, size_of}
 use Rattle.frame_reader.proofs.array.four_values.Goals as goal
 use Rattle.json_text.specs.Grammar.Elems.{elem}
 use Rattle.json_text.specs.Grammar.Json.{jarray}

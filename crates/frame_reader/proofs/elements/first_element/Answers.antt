@@ -1,7 +1,8 @@
 use Rattle.std.proofs.Common.{◌≡◌, drop, sym, ap, ◌∙◌, subst, ⊎_elim}
 use Rattle.frame_reader.specs.Walks.{AheadIn}
-use Rattle.frame_reader.proofs.Fronts.{inside_array, opens_at, some_elem}
-use Rattle.frame_reader.proofs.Openings.{array_by}
+use Rattle.frame_reader.proofs.Fronts.{inside_array}
+use Rattle.frame.proofs.Fronts.{opens_at, some_elem}
+use Rattle.frame.proofs.Openings.{array_by}
 use Rattle.frame_reader.proofs.elements.first_element.Goals as goal
 use Rattle.json_text.specs.Grammar.Elems.{elem}
 use Rattle.json_text.specs.Parts.{skip}

@@ -3,7 +3,7 @@ use Rattle.frame_reader.specs.Fields.{IdFinds}
 use Rattle.frame_reader.specs.Frame.{Must}
 use Rattle.frame_reader.proofs.Fronts.{braced, opened, opens_with, skipped}
 use Rattle.frame_reader.proofs.Onlys.{absent, no_members}
-use Rattle.frame_reader.proofs.Openings.{object_by}
+use Rattle.frame.proofs.Openings.{object_by}
 use Rattle.frame_reader.proofs.info.find_id.Goals as goal
 
 pub returns-in_default : goal.returns-in_default

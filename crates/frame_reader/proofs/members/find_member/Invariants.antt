@@ -1,6 +1,6 @@
 use Rattle.std.proofs.Common.{◌≡◌, ℕ, List}
 use Rattle.frame_reader.specs.Slots.{Bytes, SoFar}
-use Rattle.frame_reader.specs.Walks.{quoted}
+use Rattle.frame.specs.Walks.{quoted}
 use Rattle.frame_reader.proofs.Looks.{Walked, Within, left_length}
 use Rattle.frame_reader.proofs.members.find_member.Given as goal
 

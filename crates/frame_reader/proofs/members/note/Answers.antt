@@ -1,7 +1,8 @@
 use Rattle.std.proofs.Common.{sym, ap, ◌∙◌, subst}
 use Rattle.frame_reader.specs.Slots.{Bytes, SoFar}
-use Rattle.frame_reader.specs.Walks.{quoted}
-use Rattle.frame_reader.proofs.Looks.{hit, miss, unquoted}
+use Rattle.frame.specs.Walks.{quoted}
+use Rattle.frame_reader.proofs.Looks.{hit, miss}
+use Rattle.frame.proofs.Looks.{unquoted}
 use Rattle.frame_reader.proofs.members.note.Goals as goal
 use Rattle.std.proofs.lemmas.Slice.Eq.{slice_eq-Decides}
 use Rattle.std.proofs.lemmas.Bool.{both_ways}

@@ -1,6 +1,7 @@
 use Rattle.std.proofs.Common.{length, sym, ap, ◌∙◌, subst, arith, length-append}
 use Rattle.frame_reader.specs.Walks.{Begins}
-use Rattle.frame_reader.proofs.Fronts.{front, skip_short}
+use Rattle.frame_reader.proofs.Fronts.{front}
+use Rattle.frame.proofs.Fronts.{skip_short}
 use Rattle.frame_reader.proofs.members.take_name.Goals as goal
 use Rattle.json_text.specs.Parts.{skip}
 

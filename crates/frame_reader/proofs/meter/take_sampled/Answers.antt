@@ -1,8 +1,9 @@
 use Rattle.std.proofs.Common.{codes, sym, ap, ◌∙◌, subst}
 use Rattle.frame_reader.specs.Fields.{SampledFinds}
 use Rattle.frame_reader.specs.Slots.{SoFar}
-use Rattle.frame_reader.specs.Walks.{quoted}
-use Rattle.frame_reader.proofs.Looks.{hit, miss, unquoted}
+use Rattle.frame.specs.Walks.{quoted}
+use Rattle.frame_reader.proofs.Looks.{hit, miss}
+use Rattle.frame.proofs.Looks.{unquoted}
 use Rattle.frame_reader.proofs.meter.take_sampled.Goals as goal
 use Rattle.std.proofs.lemmas.Slice.Eq.{slice_eq-Decides}
 use Rattle.std.proofs.lemmas.Bool.{both_ways}

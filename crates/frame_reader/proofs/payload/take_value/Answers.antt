@@ -1,8 +1,9 @@
 use Rattle.std.proofs.Common.{codes, sym, refl, ap, ◌∙◌, subst}
 use Rattle.frame_reader.specs.Fields.{IdFinds, MeterFinds}
 use Rattle.frame_reader.specs.Slots.{Bytes, SoFar}
-use Rattle.frame_reader.specs.Walks.{quoted}
-use Rattle.frame_reader.proofs.Looks.{hit, miss, pass, unquoted}
+use Rattle.frame.specs.Walks.{quoted}
+use Rattle.frame_reader.proofs.Looks.{hit, miss, pass}
+use Rattle.frame.proofs.Looks.{unquoted}
 use Rattle.frame_reader.proofs.payload.take_value.Goals as goal
 use Rattle.std.proofs.lemmas.Slice.Eq.{slice_eq-Decides}
 use Rattle.std.proofs.lemmas.Bool.{both_ways}

@@ -1,6 +1,6 @@
 use Rattle.std.proofs.Common.{codes, subst}
 use Rattle.frame_reader.specs.Fields.{MeterOf}
-use Rattle.frame_reader.specs.Members.{under}
+use Rattle.frame.specs.Members.{under}
 use Rattle.frame_reader.proofs.Told.{is_absent, no_sample_in, sample_in, told_by, unreadable, untold}
 use Rattle.frame_reader.proofs.reading.register.Goals as goal
 

@@ -1,5 +1,6 @@
 use Rattle.std.proofs.Common.{◌≡◌, Some, codes, decimal, sym, refl, ap, ◌∙◌, arith}
-use Rattle.frame_reader.specs.Members.{chain, members_of}
+use Rattle.frame_reader.specs.Members.{chain}
+use Rattle.frame.specs.Members.{members_of}
 use Rattle.frame_reader.proofs.Onlys.{in_id, same_some, value_if}
 use Rattle.frame_reader.proofs.Same.{same_number}
 use Rattle.frame_reader.proofs.reading.told.Goals as goal
