@@ -1,6 +1,6 @@
 -- Bytes put behind those in use. Assumes nothing.
 use Rattle.std.proofs.Common.{◌≡◌, ℕ, ◌+◌, ◌-◌, ◌<◌, ◌≤◌, List, [], ◌∷◌, ◌++◌, length, get_or, take, drop, decimal, sym, refl, ap, ◌∙◌, subst, ap₂, arith, length-drop, length-take}
-use borrow.Rule.Slice.PartMut.{mid_of, Post-is, put_mid, same_len_mid}
+use borrow.Rule.Slice.PartMut.{Post-is, put_mid}
 use Rattle.decimal.specs.Decimal.{fixed}
 use Rattle.ids.specs.declared.TransactionId.{TransactionId}
 use Rattle.runs.specs.declared.run.Run.{Run}
@@ -8,17 +8,6 @@ use Rattle.statement.specs.Lines.{head, stretch_text, stretches_text}
 use Rattle.statement.specs.Statement.{Stands}
 use Rattle.std.specs.List.{flat_map}
 use Rattle.std.proofs.lemmas.List.{append_assoc, append-nil, drop_at, drop-drop, drop_more, length-append, take-append-drop, take_at, flat_map_more, take_all, take_more, take_rest}
-use Rattle.std.proofs.lemmas.Slice.{take-put_mid}
-
-module _ (mem : List ℕ) (start width : ℕ) (out : List ℕ) (fits : start + width ≤ length mem) where
-  pub part_length : length (mid_of start (start + width - start) mem) ≡ width
-  part_length = simp (length-take, length-drop) (omega arith)
-
-  pub put_text : length out ≡ width → take (start + width) (put_mid start (start + width - start) mem out) ≡ take start mem ++ out
-  put_text len = take-put_mid start (start + width - start) mem out (start + width) (omega arith) (omega arith)
-
-  pub put_length : length out ≡ width → length (put_mid start (start + width - start) mem out) ≡ length mem
-  put_length len = same_len_mid start (start + width - start) mem out (len ∙ sym part_length)
 
 -- one text behind another
 pub chained : (base x y : List ℕ) {first second : List ℕ} → first ≡ base ++ x → second ≡ first ++ y → second ≡ base ++ (x ++ y)

@@ -1,6 +1,7 @@
 -- The statement of a list of held events. Assumes nothing.
-use Rattle.std.specs.Prelude.{◌≡◌, ℕ, ◌<◌, ◌≤◌, not, ◌⊎◌, List, ◌++◌, length, drop, Ok, Err, filter, Result}
+use Rattle.std.specs.Prelude.{◌≡◌, ℕ, ◌<◌, ◌≤◌, not, ◌⊎◌, List, ◌++◌, length, Ok, Err, filter, Result}
 use Rattle.cents.specs.Cents.{largest_price}
+pub use Rattle.draft.specs.Growing.{Stands}
 use Rattle.event.specs.declared.events.Event.{Event}
 use Rattle.ids.specs.declared.TransactionId.{TransactionId}
 use Rattle.ledger.specs.Found.{end_mark}
@@ -28,11 +29,6 @@ module _ (events : List Event) where
   abbrev pub statement_bytes : (price : ℕ) → List ℕ
   statement_bytes price =
       flat_map (bill_of price) billed_sessions ++ flat_map lack_of open_sessions ++ total_line (length billed_sessions) (length open_sessions)
-
--- the bytes at the beginning of the buffer, and the rest as it was
-pub record Stands (bytes before after : List ℕ) : Type 0 where
-  pub fits : length bytes ≤ length before
-  pub written : after ≡ bytes ++ drop (length bytes) before
 
 -- why nothing is written: the price is too high, or it is not and the buffer is too short
 abbrev pub Unwritten : List Event → (price : ℕ) → List ℕ → Refusal → Type 0

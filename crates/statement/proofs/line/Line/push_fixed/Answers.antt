@@ -1,7 +1,7 @@
 use Rattle.std.proofs.Common.{◌≡◌, ◌++◌, length, take, refl, ap, ◌∙◌, arith}
 use Rattle.decimal.proofs.Widths.{length_fixed}
 use Rattle.decimal.specs.Decimal.{fixed}
-use Rattle.statement.proofs.Puts.{part_length, put_length, put_text}
+use Rattle.draft.proofs.Places.{part_length, put_length, put_text}
 use Rattle.statement.proofs.line.Line.push_fixed.Goals as goal
 use Rattle.statement.proofs.line.Line.push_fixed.Goals.{After-write_fixed}
 

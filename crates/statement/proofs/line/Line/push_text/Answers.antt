@@ -1,5 +1,5 @@
 use Rattle.std.proofs.Common.{◌≡◌, ◌++◌, length, take, refl, ap, ◌∙◌, arith}
-use Rattle.statement.proofs.Puts.{put_length, put_text}
+use Rattle.draft.proofs.Places.{put_length, put_text}
 use Rattle.statement.proofs.line.Line.push_text.Goals as goal
 
 pub invariant_of-self : goal.invariant_of-self
