@@ -1,6 +1,6 @@
 use Rattle.std.proofs.Common.{arith}
 use Rattle.channel.proofs.Queue.{length_queue}
-use Rattle.channel.proofs.ring.Ring.waiting_count.Goals as goal
+use Rattle.channel.proofs.ring.Ring.len.Goals as goal
 
 pub returns : goal.returns
 returns g c =
