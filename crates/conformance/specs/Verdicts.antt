@@ -1,16 +1,23 @@
 -- The verdict on a text. Assumes nothing.
-use Rattle.std.specs.Prelude.{ℕ, ◌<◌, ◌≤◌, List, length}
+use Rattle.std.specs.Prelude.{◌≡◌, ℕ, ◌<◌, ◌≤◌, ◌⊎◌, List, length, Result, MatchResult}
 use Rattle.json_text.specs.Beginnings.{Deep, IsJson}
-use Rattle.conformance.specs.declared.verdict.Verdict.{Verdict}
-use Rattle.conformance.specs.declared.verdict.Verdict.TheVariants.{Json, NotJson, TooDeep, TooLong}
+use Rattle.refusal.specs.declared.Refusal.{Refusal}
+use Rattle.refusal.specs.declared.Refusal.TheVariants.{NotJson, TextTooLong, TooDeep}
 
 -- the most bytes that a text may have
 abbrev pub longest : ℕ
 longest = 1024
 
--- the length decides first; within it, too deep comes before what is JSON and what is not
-abbrev pub Fits : List ℕ → Verdict → Type 0
-Fits text Json = (length text ≤ longest) × IsJson text × (Deep text → ⊥)
-Fits text TooLong = longest < length text
-Fits text TooDeep = (length text ≤ longest) × Deep text
-Fits text NotJson = (length text ≤ longest) × (IsJson text → ⊥) × (Deep text → ⊥)
+-- JSON, and neither too long nor too deep
+abbrev pub Accepted : List ℕ → Type 0
+Accepted text = (length text ≤ longest) × IsJson text × (Deep text → ⊥)
+
+-- the length decides first; within it, too deep comes before what is not JSON
+abbrev pub Refused : List ℕ → Refusal → Type 0
+Refused text why =
+    ((why ≡ TextTooLong) × (longest < length text))
+    ⊎ (((why ≡ TooDeep) × (length text ≤ longest) × Deep text)
+    ⊎ ((why ≡ NotJson) × (length text ≤ longest) × (IsJson text → ⊥) × (Deep text → ⊥)))
+
+abbrev pub Fits : List ℕ → Result (Unit {0}) Refusal → Type 0
+Fits text verdict = MatchResult verdict (λ _. Accepted text) (Refused text)

@@ -27,29 +27,25 @@ fn hex_digit(byte: u8) -> Option<u8>
 fn itself(written: &[u8]) -> Option<Piece>
     ensures { MatchOption result ((p : Piece) → Itself written.now p → ⊥) (Itself written.now) }
 {
-    if written.is_empty() || !is_plain(written[0]) {
-        return None;
+    match written {
+        [byte, ..] if is_plain(*byte) => Some(Piece {
+            byte: *byte,
+            times: 1,
+            width: 1,
+        }),
+        _ => None,
     }
-    Some(Piece {
-        byte: written[0],
-        times: 1,
-        width: 1,
-    })
 }
 
 // `%HH`
 fn hexadecimal(written: &[u8]) -> Option<Piece>
     ensures { MatchOption result ((p : Piece) → Hexadecimal written.now p → ⊥) (Hexadecimal written.now) }
 {
-    if written.len() < 3 || written[0] != b'%' {
-        return None;
-    }
-    let Some(high) = hex_digit(written[1]) else {
+    let [b'%', high, low, ..] = written else {
         return None;
     };
-    let Some(low) = hex_digit(written[2]) else {
-        return None;
-    };
+    let high = hex_digit(*high)?;
+    let low = hex_digit(*low)?;
     Some(Piece {
         byte: high * 16 + low,
         times: 1,
@@ -61,17 +57,14 @@ fn hexadecimal(written: &[u8]) -> Option<Piece>
 fn repeated(written: &[u8]) -> Option<Piece>
     ensures { MatchOption result ((p : Piece) → Repeated written.now p → ⊥) (Repeated written.now) }
 {
-    if written.len() < 7 || written[0] != b'%' || written[1] != b'*' || !is_plain(written[6]) {
-        return None;
+    match written {
+        [b'%', b'*', _, _, _, _, byte, ..] if is_plain(*byte) => Some(Piece {
+            byte: *byte,
+            times: fixed_value(&written[2..6])?,
+            width: 7,
+        }),
+        _ => None,
     }
-    let Some(times) = fixed_value(&written[2..6]) else {
-        return None;
-    };
-    Some(Piece {
-        byte: written[6],
-        times,
-        width: 7,
-    })
 }
 
 // What the written text begins with.

@@ -9,7 +9,7 @@ mod table;
 mod usage;
 mod verdict;
 
-use anyhow::anyhow;
+use anyhow::{anyhow, ensure};
 use std::env;
 use std::io::{BufWriter, Read, Write};
 use std::process::ExitCode;
@@ -21,9 +21,7 @@ fn judge_table(rt: &HostRuntime) -> anyhow::Result<()> {
     let mut out = BufWriter::new(rt.alloc(), rt.stdout())?;
     let count = report::report(&mut out, rt.alloc(), table.as_slice())?;
     out.flush()?;
-    if count.others() > 0 {
-        return Err(anyhow!("not all is as the table expects"));
-    }
+    ensure!(count.others() == 0, "not all is as the table expects");
     Ok(())
 }
 
@@ -31,10 +29,7 @@ fn run(rt: &HostRuntime) -> anyhow::Result<()> {
     let words: Vec<String> = env::args(rt)?.skip(1).collect(rt.alloc())?;
     match words.as_slice() {
         [] => judge_table(rt),
-        [word] if word.as_str() == "--help" => {
-            print!(rt; "{HELP}")?;
-            Ok(())
-        }
+        [word] if word.as_str() == "--help" => Ok(print!(rt; "{HELP}")?),
         _ => Err(anyhow!("what to do? `conformance --help` says what to type")),
     }
 }

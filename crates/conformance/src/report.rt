@@ -2,9 +2,9 @@
 use crate::count::Count;
 use crate::encoded::decode;
 use crate::table::{Line, read_line};
-use crate::verdict::{Verdict, judge};
-use anyhow::anyhow;
-use split::cut;
+use crate::verdict::{Verdict, Word, judge};
+use anyhow::Context;
+use split::Pieces;
 use std::alloc::Global;
 use std::io;
 use std::io::Write;
@@ -18,10 +18,9 @@ struct Tally {
 
 // One text more; an error where there are too many.
 fn counted(count: Count, as_expected: bool) -> anyhow::Result<Count> {
-    match count.with(as_expected) {
-        Some(count) => Ok(count),
-        None => Err(anyhow!("the table has too many texts to be counted")),
-    }
+    count
+        .with(as_expected)
+        .context("the table has too many texts to be counted")
 }
 
 impl Tally {
@@ -53,19 +52,20 @@ fn print_group<W: Write>(out: &mut W, name: &[u8], group: Count) -> io::Result<(
     if group.texts == 0 {
         return Ok(());
     }
-    let expected = group.expected;
-    let texts = group.texts;
-    write!(out, "{expected:>5} of {texts:>4}  ")?;
+    write!(out, "{:>5} of {:>4}  ", group.expected, group.texts)?;
     out.write_all(name)?;
     writeln!(out)
 }
 
 fn print_totals<W: Write>(out: &mut W, all: Count) -> io::Result<()> {
-    let texts = all.texts;
-    let expected = all.expected;
-    let others = all.others();
     writeln!(out)?;
-    writeln!(out, "{texts} texts, {expected} as expected, {others} not")
+    writeln!(
+        out,
+        "{} texts, {} as expected, {} not",
+        all.texts,
+        all.expected,
+        all.others()
+    )
 }
 
 fn print_misfit<W: Write>(out: &mut W, number: usize) -> io::Result<()> {
@@ -88,7 +88,12 @@ fn report_text<W: Write>(
     if got == expected {
         return Ok(true);
     }
-    writeln!(out, "line {number}: expected {expected}, got {got}")?;
+    writeln!(
+        out,
+        "line {number}: expected {}, got {}",
+        Word(expected),
+        Word(got)
+    )?;
     Ok(false)
 }
 
@@ -98,16 +103,16 @@ fn report_line<W: Write>(
     heap: Global,
     tally: Tally,
     number: usize,
-    line: Line<'_>,
+    line: Option<Line<'_>>,
 ) -> anyhow::Result<Tally> {
     match line {
-        Line::Blank => Ok(tally),
-        Line::Group(_) => Ok(tally.in_group()),
-        Line::Text(expected, written) => {
+        Some(Line::Blank) => Ok(tally),
+        Some(Line::Group(_)) => Ok(tally.in_group()),
+        Some(Line::Text(expected, written)) => {
             let as_expected = report_text(out, heap, number, expected, written)?;
             tally.with(as_expected)
         }
-        Line::Misfit => {
+        None => {
             print_misfit(out, number)?;
             tally.with(false)
         }
@@ -118,19 +123,13 @@ fn report_line<W: Write>(
 pub fn report<W: Write>(out: &mut W, heap: Global, table: &[u8]) -> anyhow::Result<Count> {
     let mut tally = Tally::new();
     let mut name: &[u8] = b"before the first group";
-    let mut rest = table;
-    for number in 1..usize::MAX {
-        if rest.is_empty() {
-            break;
-        }
-        let (text, after) = cut(rest, b'\n');
+    for (number, text) in (1..).zip(Pieces::of(table, b'\n')) {
         let line = read_line(text);
-        if let Line::Group(next) = line {
+        if let Some(Line::Group(next)) = line {
             print_group(out, name, tally.group)?;
             name = next;
         }
         tally = report_line(out, heap, tally, number, line)?;
-        rest = after;
     }
     print_group(out, name, tally.group)?;
     print_totals(out, tally.all)?;

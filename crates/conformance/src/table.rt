@@ -1,5 +1,6 @@
 // The lines of a table.
 use crate::verdict::Verdict;
+use refusal::Refusal;
 
 #[derive(Clone, Copy)]
 pub enum Line<'a> {
@@ -7,17 +8,17 @@ pub enum Line<'a> {
     Group(&'a [u8]),
     // the expected verdict, and the text as the table writes it
     Text(Verdict, &'a [u8]),
-    Misfit,
 }
 
-pub fn read_line(line: &[u8]) -> Line<'_> {
+// Nothing for what is no line of a table.
+pub fn read_line(line: &[u8]) -> Option<Line<'_>> {
     match line {
-        [] => Line::Blank,
-        [b'#', b' ', name @ ..] => Line::Group(name),
-        [b'j', b's', b'o', b'n', b' ', text @ ..] => Line::Text(Verdict::Json, text),
-        [b'5', b'1', b' ', text @ ..] => Line::Text(Verdict::TooLong, text),
-        [b'5', b'2', b' ', text @ ..] => Line::Text(Verdict::TooDeep, text),
-        [b'5', b'3', b' ', text @ ..] => Line::Text(Verdict::NotJson, text),
-        _ => Line::Misfit,
+        [] => Some(Line::Blank),
+        [b'#', b' ', name @ ..] => Some(Line::Group(name)),
+        [b'j', b's', b'o', b'n', b' ', text @ ..] => Some(Line::Text(Ok(()), text)),
+        [b'5', b'1', b' ', text @ ..] => Some(Line::Text(Err(Refusal::TextTooLong), text)),
+        [b'5', b'2', b' ', text @ ..] => Some(Line::Text(Err(Refusal::TooDeep), text)),
+        [b'5', b'3', b' ', text @ ..] => Some(Line::Text(Err(Refusal::NotJson), text)),
+        _ => None,
     }
 }

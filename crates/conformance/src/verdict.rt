@@ -1,5 +1,4 @@
 // What is said of a text.
-ghost use Rattle.std.specs.Prelude.{◌≡◌};
 ghost use Rattle.conformance.specs.Verdicts.{Fits};
 
 use refusal::Refusal;
@@ -8,22 +7,18 @@ use std::fmt;
 // The most bytes that a text may have.
 const LONGEST: usize = 1024;
 
-#[derive(Clone, Copy, PartialEq, Eq)]
-pub enum Verdict {
-    Json,
-    TooLong,
-    TooDeep,
-    NotJson,
-}
+// JSON, or why not.
+pub type Verdict = Result<(), Refusal>;
 
-// As a table names them.
-impl fmt::Display for Verdict {
+// A verdict as a table names it: `json`, or the refusal's number.
+#[derive(Clone, Copy)]
+pub struct Word(pub Verdict);
+
+impl fmt::Display for Word {
     fn fmt<W: fmt::Write>(&self, f: &mut fmt::Formatter<W>) -> fmt::Result {
-        match self {
-            Verdict::Json => f.write_str("json"),
-            Verdict::TooLong => f.write_str("51"),
-            Verdict::TooDeep => f.write_str("52"),
-            Verdict::NotJson => f.write_str("53"),
+        match self.0 {
+            Ok(()) => f.write_str("json"),
+            Err(why) => write!(f, "{}", why.number()),
         }
     }
 }
@@ -33,11 +28,7 @@ pub fn judge(text: &[u8]) -> Verdict
     ensures { Fits text.now result }
 {
     if text.len() > LONGEST {
-        return Verdict::TooLong;
+        return Err(Refusal::TextTooLong);
     }
-    match json_text::check(text) {
-        Ok(()) => Verdict::Json,
-        Err(Refusal::TooDeep) => Verdict::TooDeep,
-        Err(_) => Verdict::NotJson,
-    }
+    json_text::check(text)
 }
