@@ -45,6 +45,7 @@ pub enum Refusal {
 }
 
 impl Refusal {
+    // Kept: a method and no `From`, since `why.number()` says which number and `u32::from(why)` does not.
     pub fn number(self) -> u32
         ensures { result ≡ number_for self }
     {
@@ -93,9 +94,11 @@ impl Refusal {
 // `layer 3, session 7, number 2`
 impl fmt::Display for Fault {
     fn fmt<W: fmt::Write>(&self, f: &mut fmt::Formatter<W>) -> fmt::Result {
-        let layer = self.layer;
-        let session = self.session;
-        let number = self.number;
+        let Fault {
+            layer,
+            session,
+            number,
+        } = *self;
         write!(f, "layer {layer}, session {session}, number {number}")
     }
 }
