@@ -9,7 +9,7 @@ ghost use Rattle.frame.specs.Members.{under};
 ghost use Rattle.ids.specs.Ids.{MessageWritten};
 ghost use Rattle.json_text.specs.Grammar.{Json, Membs};
 
-use crate::fields::{Fields, Meter, Sample};
+use crate::fields::{Fields, Sample};
 use crate::values::{event_type, is_front, number, time, trigger_reason, truth};
 use event::{Event, Register, Transmission};
 use frame::is_string;
@@ -46,17 +46,14 @@ fn sampled(sample: Sample<'_>) -> Option<Register>
 }
 
 // The register, which may be absent; nothing where there is a meterValue that does not tell one.
-fn register(meter: Meter<'_>) -> Option<Option<Register>>
+fn register(meter: Option<Option<Sample<'_>>>) -> Option<Option<Register>>
     ensures { (payload : Membs) → MeterOf (under (codes "meterValue") payload) meter.entry → MatchOption result (NoRegister payload) (RegisterIs payload) }
 {
-    match meter {
-        Meter::Absent => Some(None),
-        Meter::Unreadable => None,
-        Meter::Sampled(sample) => {
-            let register = sampled(sample)?;
-            Some(Some(register))
-        }
-    }
+    let Some(sample) = meter else {
+        return Some(None);
+    };
+    let register = sampled(sample?)?;
+    Some(Some(register))
 }
 
 // The event that the payload tells, of the message id's station, session and number.

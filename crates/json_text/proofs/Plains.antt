@@ -1,8 +1,8 @@
 -- Bytes that stand for themselves in a string. Assumes nothing.
-use Rattle.std.proofs.Common.{◌≡◌, ℕ, zero, suc, ◌+◌, ◌-◌, ◌≤◌, Bool, true, false, ◌&&◌, List, [], ◌∷◌, length, get_or, take, MatchBool, sym, refl, ap, ◌∙◌, subst, ⊎_elim, arith, drop, length-drop, drop-drop}
+use Rattle.std.proofs.Common.{◌≡◌, ℕ, zero, suc, ◌+◌, ◌-◌, ◌≤◌, Bool, true, false, ◌&&◌, List, [], ◌∷◌, length, get_or, MatchBool, sym, refl, ap, ◌∙◌, subst, ⊎_elim, arith, drop, length-drop, drop-drop}
 use Rattle.json_text.specs.Grammar.{plain}
 use Rattle.json_text.specs.Parts.{PlainTo, string_length}
-use Rattle.std.proofs.lemmas.List.{get_or-drop, take_rest}
+use Rattle.std.proofs.lemmas.List.{get_or-drop}
 use Rattle.std.proofs.lemmas.Bool.{cases_lt, false≢true}
 use Rattle.std.proofs.lemmas.Bool.Decides.{nat_tests}
 
@@ -24,10 +24,6 @@ more_plain s i n front back j h =
 
 pub one_plain : (s : List ℕ) (i : ℕ) → PlainTo i s → plain (get_or s i 0) ≡ true → PlainTo (i + 1) s
 one_plain s i front here = more_plain s i 1 front (λ j h. ap plain (get_or-drop i s j 0 ∙ ap (λ k. get_or s k 0) (let e : i + j ≡ i = omega arith in e)) ∙ here)
-
--- what was found of the rest of the bytes
-pub rest_plain : (s : List ℕ) (i n : ℕ) → PlainTo n (take (length s - i) (drop i s)) → PlainTo n (drop i s)
-rest_plain s i n = subst (PlainTo n) (take_rest s i)
 
 -- plain bytes at the front are passed
 pub plain_front : (s : List ℕ) (n : ℕ) → n ≤ length s → PlainTo n s → string_length s ≡ n + string_length (drop n s)
@@ -52,11 +48,6 @@ pub record PlainFront (s left : List ℕ) : Type 0 where
   pub bound : length left ≤ length s
   pub is : left ≡ drop (length s - length left) s
   pub plain : PlainTo (length s - length left) s
-
-pub none_gone : (s : List ℕ) → PlainFront s s
-none_gone s =
-    let e : 0 ≡ length s - length s = omega arith in
-    record { bound = omega arith; is = ap (λ n. drop n s) e; plain = subst (λ n. PlainTo n s) e (none_plain s) }
 
 -- n more are gone
 pub more_gone : (s left rest : List ℕ) (n : ℕ) → PlainFront s left → n ≤ length left → PlainTo n left → rest ≡ drop n left → PlainFront s rest

@@ -72,13 +72,6 @@ is_deep text i h far = (
 pub at_end : (text : List ℕ) (i : ℕ) (s : State) → length text ≤ i → run begin (take i text) ≡ s → run begin text ≡ s
 at_end text i s h e = ap (run begin) (sym (take_all i text h)) ∙ e
 
-pub shallow_more : (text : List ℕ) (i : ℕ) → ShallowTo text i → Shallow (run begin (take (i + 1) text)) → ShallowTo text (i + 1)
-shallow_more text i before here n h =
-    ⊎_elim
-    (λ past. subst (λ k. Shallow (run begin (take k text))) (let e : i + 1 ≡ n = omega arith in e) here)
-    (λ within. before n within)
-    (cases_lt i n)
-
 pub shallow_scanner : (s : Scanner) → Shallow (state_of s)
 shallow_scanner s = omega (arith, s.shallow, length_stack s.containers.items)
 
