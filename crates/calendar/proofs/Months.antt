@@ -1,7 +1,6 @@
 -- The months of a year, one after the other. Assumes nothing.
-use Rattle.std.proofs.Common.{◌≡◌, ℕ, suc, ◌+◌, ◌-◌, ◌<◌, ◌≤◌, refl, ap, ◌∙◌, ⊎_elim, arith}
-use Rattle.std.proofs.lemmas.Bool.{cases_lt}
-use Rattle.calendar.specs.Calendar.{month_length, sum, days_before_month, year_length}
+use Rattle.std.proofs.Common.{◌≡◌, ℕ, suc, ◌+◌, ◌-◌, ◌≤◌, refl, ap, ◌∙◌, arith}
+use Rattle.calendar.specs.Calendar.{month_length, sum, days_before_month}
 use Rattle.calendar.proofs.Sums.{sum_more}
 
 pub months_none : (year : ℕ) → days_before_month year 1 ≡ 0
@@ -15,11 +14,3 @@ months_more year month h =
     let next : month + 1 - 1 ≡ suc (month - 1) = omega arith in
     let back : month - 1 + 1 ≡ month = omega arith in
     ap (sum f) next ∙ sum_more f (month - 1) ∙ ap (λ m. sum f (month - 1) + month_length year m) back
-
--- a day of the year that is past a month is in a later one
-pub later_month : (year month day : ℕ) → 1 ≤ month → month ≤ 12 → days_before_month year month + month_length year month ≤ day → day < year_length year → month < 12
-later_month year month day from to past within =
-    ⊎_elim
-    (λ less. less)
-    (λ last. let is : month ≡ 12 = omega arith in absurd (omega (arith, months_more year month from, ap (λ m. days_before_month year (m + 1)) is)))
-    (cases_lt month 12)

@@ -18,10 +18,8 @@ pub fn read(text: &[u8]) -> Result<u32, Refusal>
     ensures denotes { MatchResult result (λ s. Denotes text.now s) (λ e. (e ≡ Refusal.BadValue) × NoSecond text.now) }
     ensures writes_back { IfOk result (λ s. WritesBack text.now s) }
 {
-    match Civil::parse(text) {
-        Some(civil) => Ok(civil.seconds()),
-        None => Err(Refusal::BadValue),
-    }
+    let civil = Civil::parse(text).ok_or(Refusal::BadValue)?;
+    Ok(civil.seconds())
 }
 
 // The text of a second, up to the last.
@@ -35,7 +33,8 @@ pub fn write(second: u32) -> Result<[u8; 20], Refusal>
     Ok(Civil::at(second).text())
 }
 
-// A civil time, in UTC. It is public only so that contracts can name it.
+// A civil time, in UTC. It is public only so that contracts can name it. Kept: that it is lawful is no invariant of the
+// type, since `is_lawful` must see what a text says before it is known to exist; only `days` and `seconds` ask for it.
 #[derive(Drop)]
 pub struct Civil {
     year: u16,
@@ -176,32 +175,49 @@ fn month_and_day(year: u16, day_of_year: u32) -> (u8, u8)
     ensures day { (1 ≤ result.1) × (result.1 ≤ month_length year result.0) }
     ensures counted { days_before_month year result.0 + (result.1 - 1) ≡ day_of_year }
 {
-    let mut month = 1;
     let mut rest = day_of_year;
-    loop {
+    for month in 1..=12 {
         let length = u32::from(month_length(year, month));
         if rest < length {
             return (month, rest as u8 + 1);
         }
         rest -= length;
-        month += 1;
     }
+    unreachable!()
 }
 
 // There are 20 bytes, and the marks stand in their places.
 fn has_marks(text: &[u8]) -> bool
     ensures { MatchBool result (Marked text.now) (Marked text.now → ⊥) }
 {
-    text.len() == 20
-        && text[4] == b'-'
-        && text[7] == b'-'
-        && text[10] == b'T'
-        && text[13] == b':'
-        && text[16] == b':'
-        && text[19] == b'Z'
+    matches!(
+        text,
+        [
+            _,
+            _,
+            _,
+            _,
+            b'-',
+            _,
+            _,
+            b'-',
+            _,
+            _,
+            b'T',
+            _,
+            _,
+            b':',
+            _,
+            _,
+            b':',
+            _,
+            _,
+            b'Z'
+        ]
+    )
 }
 
-// The number that the digits at a place write.
+// The number that the digits at a place write. Kept: a place and a width, where a range would hide the width in a difference.
 fn number_at(text: &[u8], place: usize, width: usize) -> Option<u64>
     requires { (place + width ≤ length text.now) × ((1 ≤ width) × (width ≤ 18)) }
     ensures { MatchOption result ((n : ℕ) → Field text.now place width n → ⊥) (λ n. Field text.now place width n) }

@@ -1,7 +1,7 @@
 -- What waits in a ring after a place was written, or the first moved on. Assumes nothing.
 use Rattle.std.proofs.Common.{◌≡◌, ℕ, zero, suc, ◌+◌, ◌-◌, ◌<◌, ◌≤◌, min, ◌⊎◌, List, [], ◌∷◌, ◌++◌, length, get_or, take, drop, set, sym, refl, ap, ◌∙◌, subst, inl, inr, append_assoc, append-nil, arith, length-append, length-drop, take-append-drop, length-take, drop-cons, get_or-take, take-suc, take-take, drop-set-lt}
 use lib.Seq.{drop-append-le, take-append-add, take-append_seam, take-set-lt, take-set-le, drop-set-add, set-append_left, take-append-le, take-length, drop-length}
-use Rattle.std.proofs.lemmas.List.{drop_all, set-append_right, take_all, take_more_set}
+use Rattle.std.proofs.lemmas.List.{set-append_right, take_more_set}
 use Rattle.channel.specs.Places.{most_places, places, queue, turned}
 use Rattle.channel.specs.Ring.{Contents}
 
@@ -24,13 +24,6 @@ module _ {Item : Type 0} where
       take_again zero xs = refl
       take_again (suc n) [] = refl
       take_again (suc n) (x ∷ xs) = ap (λ l. x ∷ l) (take_again n xs)
-
-  -- a first past the used places counts as 0
-  pub queue_past : (memory : List Item) (first count : ℕ) → places memory ≤ first → queue memory first count ≡ queue memory 0 count
-  queue_past memory first count h =
-      let xs = take most_places memory in
-      let past : length xs ≤ first = omega (arith, length-take most_places memory) in
-      ap (λ l. take count l) (ap (λ l. l ++ take first xs) (drop_all first xs past) ∙ take_all first xs past ∙ sym (append-nil xs))
 
   -- no turn past the end: a write at place first + count is one at place count of what is read from first on
   turned_set_ahead : (xs : List Item) (first count : ℕ) (item : Item) → first + count < length xs

@@ -14,7 +14,8 @@ pub trait Channel {
     // what waits, the free count, and who would refuse now
     ghost meaning: { Self → Meaning Self.Item };
 
-    // LAYER, for promises
+    // LAYER, for promises. Kept: a ghost constant of the same name, which the check would tie to LAYER, was tried; it gets no
+    // proof in an impl with a lifetime, as the ring's.
     ghost layer: { ℕ };
 
     // what a send and a receive of this kind of channel do, beyond the laws of every channel

@@ -1,10 +1,11 @@
 -- A plain number text is what std writes of a number, `decimal n`. Assumes nothing.
-use Rattle.std.proofs.Common.{◌≡◌, ℕ, ◌+◌, ◌/◌, ◌%◌, ◌^◌, ◌<◌, ◌≤◌, List, length, get_or, decimal, sym, ap, ◌∙◌, ⊎_elim, arith}
+use Rattle.std.proofs.Common.{◌≡◌, ℕ, ◌+◌, ◌/◌, ◌%◌, ◌^◌, ◌<◌, ◌≤◌, List, length, get_or, decimal, sym, ap, ◌∙◌, subst, ⊎_elim, arith}
 use Rattle.std.proofs.lemmas.Fmt.{decimal_digit, decimal_nonempty, decimal_step, length-decimal-le, digits_decimal, first_decimal, digits_value-decimal, decimal-digits_value}
 use Rattle.std.proofs.lemmas.List.{length_push}
 use Rattle.std.proofs.lemmas.Bool.{cases_lt}
+use Rattle.std.proofs.Math.Nat.{pow-le-pow_right}
 use Rattle.decimal.specs.Decimal.{fixed, value, PlainText}
-use Rattle.decimal.proofs.Values.{numerals}
+use Rattle.decimal.proofs.Values.{numerals, value_below}
 use Rattle.decimal.proofs.Widths.{fixed_value}
 
 -- a leading '0' is all of the text of 0
@@ -28,9 +29,17 @@ decimal_plain bytes t h = decimal-digits_value numerals bytes t.digits t.some t.
 pub plain_fixed : (n : ℕ) → n < 2 ^ 64 → fixed (length (decimal n)) n ≡ decimal n
 plain_fixed n h = ap (fixed (length (decimal n))) (sym (value_plain n h)) ∙ fixed_value (decimal n) (digits_decimal numerals n h)
 
--- one digit less
-pub length_step : (n : ℕ) → 10 ≤ n → n < 2 ^ 64 → length (decimal n) ≡ length (decimal (n / 10)) + 1
-length_step n ten h = ap length (decimal_step n ten h) ∙ length_push (decimal (n / 10)) (48 + n % 10)
+-- a number from a power of ten on has more digits than that power has zeros
+pub length_least : (k n : ℕ) → 10 ^ k ≤ n → n < 2 ^ 64 → k < length (decimal n)
+length_least k n low h =
+    ⊎_elim
+    (λ more. more)
+    (λ few.
+    let digits = decimal n in
+    let below : n < 10 ^ length digits = subst (λ m. m < 10 ^ length digits) (value_plain n h) (value_below digits (digits_decimal numerals n h)) in
+    let power : 10 ^ length digits ≤ 10 ^ k = pow-le-pow_right (omega arith) few in
+    absurd (omega arith))
+    (cases_lt k (length (decimal n)))
 
 -- a number of 64 bits has at most 20 digits
 pub length_most : (n : ℕ) → n < 2 ^ 64 → length (decimal n) ≤ 20

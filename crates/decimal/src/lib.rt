@@ -7,7 +7,8 @@ ghost use Rattle.decimal.specs.Decimal.{AllDigits, value, fixed, FixedText, Plai
 // The most digits that `fixed_value` reads: as many nines fit a u64.
 const MOST_DIGITS: usize = 18;
 
-// The number that the bytes write, or `u64::MAX` where it is larger; `None` where a byte is no digit.
+// The number that the bytes write, or `u64::MAX` where it is larger; `None` where a byte is no digit. Kept: it saturates, as
+// the library's own sums do, since who reads a number compares it with a limit and would only undo a case of its own.
 fn capped_value(digits: &[u8]) -> Option<u64>
     ensures { MatchOption result (AllDigits digits.now → ⊥) (λ n. AllDigits digits.now × (n ≡ min (value digits.now) (2 ^ 64 - 1))) }
 {
@@ -55,6 +56,7 @@ pub fn write_fixed(number: u64, out: &mut [u8])
     ensures { out.new ≡ fixed (length out.old) number }
 {
     let mut rest = number;
+    // Kept: places are counted, since nothing is known of what an adapter of `iter_mut`, as its `rev`, has written.
     for i in (0..out.len()).rev() {
         out[i] = last_digit(rest);
         rest /= 10;
@@ -65,11 +67,8 @@ pub fn write_fixed(number: u64, out: &mut [u8])
 pub fn plain_width(number: u64) -> usize
     ensures { result ≡ length (decimal number) }
 {
-    let mut width = 1;
-    let mut rest = number;
-    while rest >= 10 {
-        rest /= 10;
-        width += 1;
+    match number.checked_ilog10() {
+        Some(log) => log as usize + 1,
+        None => 1,
     }
-    width
 }

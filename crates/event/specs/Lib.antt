@@ -1,3 +1,4 @@
 pub mod Keys
 pub mod Lawful
 pub mod Search
+pub mod Names

@@ -1,5 +1,5 @@
 -- A spool's own rules keep the laws of every channel. Assumes nothing.
-use Rattle.std.proofs.Common.{◌≡◌, ℕ, zero, suc, ◌+◌, ◌-◌, ◌<◌, ◌≤◌, ◌⊎◌, List, [], ◌∷◌, ◌++◌, length, take, IfSome, Some, None, Ok, Err, Option, Result, sym, refl, ap, ◌∙◌, subst, inl, inr, ⊎_elim, arith, length-append}
+use Rattle.std.proofs.Common.{◌≡◌, ℕ, zero, suc, ◌+◌, ◌-◌, ◌<◌, ◌≤◌, ◌⊎◌, List, [], ◌∷◌, ◌++◌, length, IfSome, Some, None, Ok, Err, Option, Result, sym, refl, ap, ◌∙◌, subst, inl, inr, ⊎_elim, arith, length-append}
 use Rattle.std.proofs.lemmas.List.{length_push}
 use Rattle.channel.specs.Laws.{Accepted, Receives, Refused, Sends}
 use Rattle.channel.specs.Members.{In}
@@ -166,5 +166,5 @@ module _ {C Item : Type 0} (channel : Promises C Item) where
       given (Some x) g = passes_waits s.passes x (low x g)
 
 -- a spool's parts as they stand after a call
-abbrev pub laid : {C Item : Type 0} → (below : C) (count : ℕ) (places : List Item) → Spooled C Item
-laid below count places = record { below = below; held = take count places }
+abbrev pub laid : {C Item : Type 0} → (below : C) (held : List Item) → Spooled C Item
+laid below held = record { below = below; held = held }

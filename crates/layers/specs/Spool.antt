@@ -1,5 +1,5 @@
 -- What a spool holds, and what its calls do. Assumes nothing.
-use Rattle.std.specs.Prelude.{◌≡◌, ◌+◌, ◌-◌, ◌<◌, min, ◌⊎◌, List, [], ◌∷◌, ◌++◌, length, take, Ok, Err, Option, Result}
+use Rattle.std.specs.Prelude.{◌≡◌, ◌+◌, ◌-◌, ◌<◌, min, ◌⊎◌, List, [], ◌∷◌, ◌++◌, length, Ok, Err, Option, Result}
 use Rattle.channel.specs.Laws.{Meaning}
 use Rattle.channel.specs.declared.channel.Channel.{Ghosts as Promises}
 use Rattle.channel.specs.declared.faults.Full.{Full}
@@ -13,9 +13,8 @@ pub record Spooled (C Item : Type 0) : Type 0 where
   pub below : C
   pub held : List Item
 
--- the held ones stand first in the spool's places
 abbrev pub spooled : {C : Type 0} → Spool C → Spooled C Transmission
-spooled spool = record { below = spool.below; held = take spool.count spool.places }
+spooled spool = record { below = spool.below; held = spool.held.items }
 
 module _ {C Item : Type 0} (channel : Promises C Item) where
   -- below's items wait, then the held; the free places are its own and below's; it refuses by itself

@@ -13,6 +13,7 @@ pub struct Repeater<C> {
     // the channel that it stands on, which its owner may also use itself
     pub below: C,
     // how often each item is sent: 0 counts as 1, more than 3 as 3
+    // Kept: the number as it was given, and no invariant: it is clamped in one place either way.
     n: u32,
 }
 
@@ -29,7 +30,7 @@ impl<C: Channel> Repeater<C> {
     pub fn times(&self) -> u32
         ensures { result ≡ times_for self.now.n }
     {
-        self.n.min(3).max(1)
+        self.n.clamp(1, 3)
     }
 }
 

@@ -1,62 +1,42 @@
 // A ring of answers, alone.
+use crate::demo::write_title;
 use crate::items::answer;
-use crate::print;
-use channel::{Channel, Ring};
+use channel::{Channel, RING_LAYER, Ring};
 use event::Answer;
 use std::io;
 use std::io::Write;
 
-#[derive(Clone, Copy)]
-enum Step {
-    Send(u16),
-    Receive,
-}
-
-const STEPS: [Step; 9] = [
-    Step::Receive,
-    Step::Send(1),
-    Step::Send(2),
-    Step::Send(3),
-    Step::Receive,
-    Step::Send(3),
-    Step::Receive,
-    Step::Receive,
-    Step::Receive,
-];
-
 fn send<W: Write>(out: &mut W, ring: &mut Ring<'_, Answer>, number: u16) -> io::Result<()> {
     match ring.send(answer(number)) {
         Ok(()) => writeln!(out, "  send the answer to {number}: accepted"),
-        Err(full) => {
-            let layer = full.layer;
-            writeln!(
-                out,
-                "  send the answer to {number}: refused by layer {layer}"
-            )
-        }
+        Err(full) => writeln!(
+            out,
+            "  send the answer to {number}: refused by layer {}",
+            full.layer
+        ),
     }
 }
 
 fn receive<W: Write>(out: &mut W, ring: &mut Ring<'_, Answer>) -> io::Result<()> {
     match ring.receive() {
-        Some(answer) => {
-            let number = answer.number;
-            writeln!(out, "  receive: the answer to {number}")
-        }
+        Some(answer) => writeln!(out, "  receive: the answer to {}", answer.number),
         None => writeln!(out, "  receive: nothing"),
     }
 }
 
-pub fn show<W: Write>(out: &mut W) -> anyhow::Result<()> {
-    print::title(out, "A ring of answers, with 2 places")?;
+pub fn show<W: Write>(out: &mut W) -> io::Result<()> {
+    write_title(out, "A ring of answers, with 2 places")?;
+    writeln!(out, "  layer {RING_LAYER}")?;
     let mut memory = [answer(0); 2];
     let mut ring = Ring::open(&mut memory);
-    print::layer(out, &ring)?;
-    for step in STEPS {
-        match step {
-            Step::Send(number) => send(out, &mut ring, number)?,
-            Step::Receive => receive(out, &mut ring)?,
-        }
+    receive(out, &mut ring)?;
+    send(out, &mut ring, 1)?;
+    send(out, &mut ring, 2)?;
+    send(out, &mut ring, 3)?;
+    receive(out, &mut ring)?;
+    send(out, &mut ring, 3)?;
+    for _turn in 0..3 {
+        receive(out, &mut ring)?;
     }
     Ok(())
 }

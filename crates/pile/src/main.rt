@@ -2,11 +2,11 @@
 #![tactic(auto)]
 
 mod answers;
+mod demo;
 mod items;
 mod over_hall;
 mod over_ring;
-mod print;
-mod steps;
+mod pile;
 
 use std::io::{BufWriter, Write};
 

@@ -7,14 +7,14 @@ ghost use Rattle.refusal.specs.Numbers.{fault_in, number_for};
 use std::fmt;
 
 // Who refused a send: the channel's layer, and the event's session and number.
-#[derive(Clone, Copy)]
+#[derive(Clone, Copy, Debug, PartialEq, Eq)]
 pub struct Fault {
     pub layer: u8,
     pub session: u32,
     pub number: u16,
 }
 
-#[derive(Clone, Copy)]
+#[derive(Clone, Copy, Debug, PartialEq, Eq)]
 pub enum Refusal {
     OutOfRange,
     UnknownVariable,

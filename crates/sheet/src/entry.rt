@@ -37,11 +37,31 @@ pub struct Misread {
 
 impl fmt::Display for Field {
     fn fmt<W: fmt::Write>(&self, f: &mut fmt::Formatter<W>) -> fmt::Result {
-        match self {
-            Field::Id => f.write_str("transaction id"),
-            Field::Started => f.write_str("started Wh"),
-            Field::Ended => f.write_str("ended Wh"),
-            Field::Price => f.write_str("price"),
-        }
+        f.write_str(match self {
+            Field::Id => "transaction id",
+            Field::Started => "started Wh",
+            Field::Ended => "ended Wh",
+            Field::Price => "price",
+        })
+    }
+}
+
+// `00017-00000003      12500 Wh        438 cents`
+impl fmt::Display for Charge {
+    fn fmt<W: fmt::Write>(&self, f: &mut fmt::Formatter<W>) -> fmt::Result {
+        let Charge { id, energy, cents } = *self;
+        write!(f, "{id} {energy:>10} Wh {cents:>10} cents")
+    }
+}
+
+// `place 16 (started Wh): refused 12: the register is below the session's last register`
+impl fmt::Display for Misread {
+    fn fmt<W: fmt::Write>(&self, f: &mut fmt::Formatter<W>) -> fmt::Result {
+        let Misread { field, place, why } = *self;
+        write!(
+            f,
+            "place {place} ({field}): refused {}: {why}",
+            why.number()
+        )
     }
 }

@@ -1,32 +1,29 @@
 // Reads the lines of a sheet.
 ghost use Rattle.std.specs.Prelude.{◌≡◌, ◌-◌, ◌^◌, ◌<◌, MatchResult};
 ghost use Rattle.cents.specs.Cents.{largest_price};
-ghost use Rattle.sheet.specs.Sheet.{Charged, ReadsNumber, Refused, Says, Uncharged};
+ghost use Rattle.event.specs.Lawful.{largest_register};
+ghost use Rattle.ids.specs.Ids.{Id as IdIn, NoId};
+ghost use Rattle.sheet.specs.Sheet.{Charged, NoNumber, Number, ReadsNumber, Refused, Says, Uncharged};
+ghost use Rattle.sheet.specs.declared.entry.Field.{Field};
 
 use crate::entry::{Charge, Entry, Field, Misread};
 use cents::{LARGEST_PRICE, cents};
 use decimal::plain_value;
-use event::LARGEST_REGISTER;
+use event::{LARGEST_REGISTER, Register};
 use ids::TransactionId;
 use refusal::Refusal;
 use split::cut;
-
-fn misread(field: Field, place: usize, why: Refusal) -> Misread
-    ensures { result ≡ record { field = field; place = place; why = why } }
-{
-    Misread { field, place, why }
-}
 
 // A number without needless leading zeros, within the limit.
 fn number(text: &[u8], limit: u64) -> Result<u64, Refusal>
     requires { limit < 2 ^ 64 - 1 }
     ensures { ReadsNumber limit text.now result }
 {
-    match plain_value(text) {
-        None => Err(Refusal::BadValue),
-        Some(n) if n > limit => Err(Refusal::OutOfRange),
-        Some(n) => Ok(n),
+    let number = plain_value(text).ok_or(Refusal::BadValue)?;
+    if number > limit {
+        return Err(Refusal::OutOfRange);
     }
+    Ok(number)
 }
 
 // The price as a command line gives it.
@@ -36,26 +33,43 @@ pub fn read_price(text: &[u8]) -> Result<u64, Refusal>
     number(text, LARGEST_PRICE)
 }
 
+// The id at the beginning of a line.
+fn id(text: &[u8]) -> Result<TransactionId, Misread>
+    ensures { MatchResult result (IdIn text.now) (λ m. (m.field ≡ Field.Id) × (m.place ≡ 1) × NoId text.now m.why) }
+{
+    TransactionId::read(text).map_err(|why| Misread {
+        field: Field::Id,
+        place: 1,
+        why,
+    })
+}
+
+// The register in a field, which begins at the place.
+fn register(text: &[u8], field: Field, place: usize) -> Result<Register, Misread>
+    ensures { MatchResult result (Number largest_register text.now) (λ m. (m.field ≡ field) × (m.place ≡ place) × NoNumber largest_register text.now m.why) }
+{
+    number(text, LARGEST_REGISTER).map_err(|why| Misread { field, place, why })
+}
+
 // What the line says, or its first wrong field.
 pub fn read_line(line: &[u8]) -> Result<Entry, Misread>
     ensures { MatchResult result (Says line.now) (Refused line.now) }
 {
     let (id_field, rest) = cut(line, b' ');
     let (started_field, ended_field) = cut(rest, b' ');
-    let id = match TransactionId::read(id_field) {
-        Ok(id) => id,
-        Err(why) => return Err(misread(Field::Id, 1, why)),
-    };
-    let started = match number(started_field, LARGEST_REGISTER) {
-        Ok(started) => started,
-        Err(why) => return Err(misread(Field::Started, id_field.len() + 2, why)),
-    };
-    let place = id_field.len() + started_field.len() + 3;
-    match number(ended_field, LARGEST_REGISTER) {
-        Err(why) => Err(misread(Field::Ended, place, why)),
-        Ok(ended) if ended < started => Err(misread(Field::Ended, place, Refusal::RegisterFell)),
-        Ok(ended) => Ok(Entry { id, started, ended }),
+    let started_place = id_field.len() + 2;
+    let ended_place = started_place + started_field.len() + 1;
+    let id = id(id_field)?;
+    let started = register(started_field, Field::Started, started_place)?;
+    let ended = register(ended_field, Field::Ended, ended_place)?;
+    if ended < started {
+        return Err(Misread {
+            field: Field::Ended,
+            place: ended_place,
+            why: Refusal::RegisterFell,
+        });
     }
+    Ok(Entry { id, started, ended })
 }
 
 // What the line's session costs at this price.
@@ -64,12 +78,14 @@ pub fn charge(line: &[u8], price: u64) -> Result<Charge, Misread>
 {
     let entry = read_line(line)?;
     let energy = entry.ended - entry.started;
-    match cents(energy, price) {
-        Ok(cents) => Ok(Charge {
-            id: entry.id,
-            energy,
-            cents,
-        }),
-        Err(why) => Err(misread(Field::Price, 0, why)),
-    }
+    let cents = cents(energy, price).map_err(|why| Misread {
+        field: Field::Price,
+        place: 0,
+        why,
+    })?;
+    Ok(Charge {
+        id: entry.id,
+        energy,
+        cents,
+    })
 }

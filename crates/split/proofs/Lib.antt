@@ -1,1 +1,2 @@
+pub mod FirstPiece
 pub mod Sides

@@ -1,9 +1,9 @@
+use Rattle.std.proofs.Common.{rules}
 use Rattle.calendar.specs.Calendar.{Denotes}
 use Rattle.calendar.proofs.Denoted.{writes_back}
 use Rattle.calendar.proofs.read.Goals as goal
 
-pub returns-in-Some : goal.returns-in-Some
-returns-in-Some c =
-    let lawful = c.in-Some.ensures.0 in
-    let d : Denotes c.args.text.now c.seconds.result = record { civil = c.in-Some.civil; lawful = lawful; written = c.in-Some.ensures.1; counted = c.seconds.ensures } in
-    record { denotes = d; writes_back = writes_back c.args.text.now c.seconds.result d }
+pub returns-clause-writes_back : goal.returns-clause-writes_back
+returns-clause-writes_back c =
+    let denoted : Denotes c.args.text.now c.seconds.result = search rules in
+    writes_back c.args.text.now c.seconds.result denoted

@@ -1,24 +1,12 @@
-use Rattle.std.proofs.Common.{◌≡◌, ◌≤◌, ◌⊎◌, replicate, Ok, Err, sym, refl, ap, ◌∙◌, subst, inl, inr, arith}
+use Rattle.std.proofs.Common.{◌≡◌, ◌≤◌, ◌⊎◌, replicate, Ok, Err, sym, ap, ◌∙◌, subst, inl, inr, arith}
 use Rattle.channel.specs.Laws.{Sends}
 use Rattle.layers.specs.Below.{Sent, Took, free_of}
 use Rattle.layers.specs.Limits.{times_for}
-use Rattle.layers.specs.Repeater.{ClosedBelow, RepeaterSends, Repeats, TurnedAway, repeater_meaning}
+use Rattle.layers.specs.Repeater.{ClosedBelow, RepeaterSends, Repeats, repeater_meaning}
 use Rattle.layers.proofs.RepeaterLaws.{all_room, first_refused, one_more, send_law}
 use Rattle.layers.proofs.repeater.RepeaterChannel.send.Goals as goal
 use Rattle.layers.proofs.repeater.RepeaterChannel.send.Goals.{else-free-gt0-via-then-free-gt0+else-free-times, else-free-gt0-via-else-free-gt0}
 use Rattle.std.proofs.lemmas.Result.{err_from_is_err_and}
-
-pub returns-then-free-times : goal.returns-then-free-times
-returns-then-free-times g c =
-    let repeater = c.args.self.now in
-    let times = times_for repeater.n in
-    let some : 1 ≤ times = omega arith in
-    let away : TurnedAway g.C.Channel times repeater.below (record { layer = 4 }) repeater.below =
-    record { was_open = omega arith; short = omega arith; by = refl; same = refl } in
-    record {
-      law = send_law g.C.Channel times some repeater.below c.args.item (Err (record { layer = 4 })) repeater.below (inr away);
-      rule = (inr away, refl);
-    }
 
 pub returns-in_err-send : goal.returns-in_err-send
 returns-in_err-send g c =

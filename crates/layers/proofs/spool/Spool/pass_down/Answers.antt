@@ -1,41 +1,24 @@
-use Rattle.std.proofs.Common.{◌-◌, ◌<◌, ◌≤◌, ◌++◌, length, take, drop, sym, ap, ◌∙◌, inl, inr, arith}
-use Rattle.layers.proofs.Chains.{took_next}
-use Rattle.layers.proofs.Places.{take_again, taken_fits, turn_held}
+use Rattle.std.proofs.Common.{◌≡◌, ◌+◌, ◌<◌, [], ◌∷◌, ◌++◌, length, Ok, sym, ap, ◌∙◌, subst, append_assoc, arith, length-append}
+use Rattle.std.proofs.lemmas.List.{length_push}
+use Rattle.layers.specs.Below.{Sent}
+use Rattle.layers.proofs.Chains.{took_more}
+use Rattle.layers.proofs.Places.{first_removed}
 use Rattle.layers.proofs.spool.Spool.pass_down.Goals as goal
-use Rattle.layers.proofs.spool.Spool.pass_down.Goals.{then-loop-passed-test+else-free_count-gt0, else-loop-passed-test}
 
-pub loop-passed-preserved : goal.loop-passed-preserved
-loop-passed-preserved g c =
-    let spool = c.args.self.now in
-    let loop = c.loop-passed in
-    let fits = taken_fits spool.count spool.places in
-    let low : loop.passed < length spool.places = omega (arith, fits, c.held_count-count.ensures.count) in
-    let took = took_next g.C.Channel spool.places loop.passed _ spool.below loop.self.below c.send.new.self c.send.result loop.self.places
-    loop.invariant.1 low loop.invariant.0 c.send.ensures.law c.send.ensures.rule c.unwrap.ensures in
-    (took, loop.invariant.1, omega arith)
-
-pub returns : goal.returns
-returns g c =
-    let spool = c.args.self.now in
-    let loop = c.loop-passed in
-    let count = c.held_count-count.result in
-    let turned = c.rotate_left.new.self in
-    let fits : count ≤ length spool.places = omega (arith, taken_fits spool.count spool.places, c.held_count-count.ensures.count) in
-    record {
-      passes = record {
-        passed = take loop.passed spool.places;
-        down = loop.invariant.0;
-        oldest =
-            take_again spool.count spool.places
-            ∙ ap (λ n. take n spool.places) (sym c.held_count-count.ensures.count)
-            ∙ turn_held spool.places loop.passed count loop.invariant.2 fits
-            ∙ ap (λ ps. take loop.passed spool.places ++ take (count - loop.passed) ps)
-            (sym (c.rotate_left.ensures.after ∙ ap (λ ps. drop loop.passed ps ++ take loop.passed ps) loop.invariant.1));
-        ends =
-            elim c.loop-passed-test.branch [
-              | then-loop-passed-test+else-free_count-gt0 w ↦ inr (omega arith)
-              | else-loop-passed-test w ↦ inl (ap (λ n. take n turned) {x = count - loop.passed} {y = 0} (omega arith))
-            ];
-      };
-      fits = omega (arith, c.held_count-count.ensures.count, c.held_count-count.ensures.fits);
-    }
+pub loop-turn-preserved : goal.loop-turn-preserved
+loop-turn-preserved g c =
+    let loop = c.loop-turn in
+    let passed = loop.invariant.0 in
+    let oldest = c.remove-oldest.result in
+    let rest = c.remove-oldest.new.self.items in
+    let sent : Sent g.C.Channel loop.self.below oldest (Ok tt) c.send.new.self =
+    subst (λ r. Sent g.C.Channel loop.self.below oldest r c.send.new.self) c.unwrap.ensures
+    (record { law = c.send.ensures.law; rule = c.send.ensures.rule }) in
+    let held = loop.self.held.items in
+    let some : 0 < length held = omega (arith, ap length loop.invariant.2 ∙ length-append passed held, loop.invariant.3) in
+    let front : held ≡ oldest ∷ rest = first_removed held oldest rest some c.remove-oldest.ensures.value c.remove-oldest.ensures.items in (
+      passed ++ oldest ∷ [],
+      took_more g.C.Channel passed oldest c.args.self.now.below loop.self.below c.send.new.self loop.invariant.1 sent,
+      loop.invariant.2 ∙ ap (λ l. passed ++ l) front ∙ sym (append_assoc passed (oldest ∷ []) rest),
+      length_push passed oldest ∙ ap (λ n. n + 1) loop.invariant.3,
+    )
