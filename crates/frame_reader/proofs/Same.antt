@@ -11,7 +11,8 @@ use Rattle.event.specs.declared.events.Transmission.{Transmission}
 use Rattle.event.specs.declared.events.TriggerReason.{TriggerReason}
 use Rattle.event.specs.declared.events.TriggerReason.TheVariants.{CablePluggedIn, MeterValuePeriodic, EVDeparted}
 use Rattle.frame.specs.Call.{Call, NoCall}
-use Rattle.frame_reader.specs.Frame.{Called, Frame, Named, Parsed, Reads, ReadsAs, Refused, Says, Tells, Timed, flag, longest, reason_text, type_text}
+use Rattle.frame_reader.specs.Frame.{Called, Frame, Named, Parsed, Reads, ReadsAs, Refused, Says, Tells, Timed, flag, longest}
+use Rattle.event.specs.Names.{reason_text, type_text}
 use Rattle.frame_reader.specs.Frame.Refused.{too_long, too_deep, not_json, not_a_frame, bad_members, bad_value}
 use Rattle.frame.specs.Kinds.{At}
 use Rattle.frame_reader.specs.Members.{element_of, element_under}

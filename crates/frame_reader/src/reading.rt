@@ -10,7 +10,7 @@ ghost use Rattle.ids.specs.Ids.{MessageWritten};
 ghost use Rattle.json_text.specs.Grammar.{Json, Membs};
 
 use crate::fields::{Fields, Sample};
-use crate::values::{event_type, is_front, number, time, trigger_reason, truth};
+use crate::values::{is_front, named, number, time, truth};
 use event::{Event, Register, Transmission};
 use frame::is_string;
 use ids::MessageId;
@@ -74,11 +74,11 @@ fn told(fields: Fields<'_>, id: &[u8], message: MessageId) -> Option<Event>
         station: message.station as u16,
         session: message.session as u32,
         number: message.number as u16,
-        kind: event_type(fields.event_type)?,
+        kind: named(fields.event_type)?,
         time: time(fields.timestamp)?,
         offline: flag(fields.offline)?,
         register: register(fields.meter)?,
-        reason: trigger_reason(fields.trigger_reason)?,
+        reason: named(fields.trigger_reason)?,
     })
 }
 
