@@ -19,10 +19,7 @@ use ids::MessageId;
 fn flag(value: Option<&[u8]>) -> Option<bool>
     ensures { (tree : Option Json) → ValueIf tree value.entry → MatchOption result ((b : Bool) → FlagIs tree b → ⊥) (FlagIs tree) }
 {
-    match value {
-        Some(value) => truth(value),
-        None => Some(false),
-    }
+    value.map_or(Some(false), truth)
 }
 
 // The measurand is the register's, or missing.
