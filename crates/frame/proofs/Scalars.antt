@@ -1,13 +1,13 @@
 -- Strings, numbers and objects by their bytes. Assumes nothing.
-use Rattle.std.proofs.Common.{◌≡◌, ℕ, ◌-◌, ◌<◌, Bool, true, false, eqb, List, [], ◌∷◌, length, get_or, take, drop, codes, MatchBool, sym, refl, ap, ◌∙◌, subst, append-nil, arith, length-append}
+use Rattle.std.proofs.Common.{◌≡◌, ℕ, ◌-◌, true, List, [], ◌∷◌, length, get_or, take, drop, codes, sym, refl, ap, ◌∙◌, subst, append-nil, arith, length-append}
 use Rattle.frame.specs.Walks.{quoted}
 use Rattle.frame.proofs.Looks.{unquoted}
 use Rattle.frame.proofs.Openings.{object_by, opening, opens, string_by}
 use Rattle.json_text.specs.Grammar.{Json, Membs, Value}
 use Rattle.json_text.specs.Grammar.Json.{jnull, jtrue, jfalse, jnumber, jstring, jarray, jobject}
-use Rattle.json_text.specs.Grammar.Value.{is_number, is_string, empty_object, is_object}
+use Rattle.json_text.specs.Grammar.Value.{is_number, is_string}
 use Rattle.std.proofs.lemmas.List.{take_at}
-use Rattle.std.proofs.lemmas.Bool.{eqb-false, eqb-true, false≢true}
+use Rattle.std.proofs.lemmas.Bool.{false≢true}
 
 -- a value's first byte
 pub first_opens : (t : Json) (v : List ℕ) → Value t v → opening t (get_or v 0 0) ≡ true
@@ -44,13 +44,6 @@ two_by_bytes t v v-is e =
     let by = number_by t (subst (λ b. opening t b ≡ true) (ap (λ l. get_or l 0 0) e) (first_opens t v v-is)) in
     by.1 ∙ ap jnumber (sym (number_bytes_are t by.0 v v-is by.1) ∙ e)
 
-object_brace : (ms : Membs) (v : List ℕ) → Value (jobject ms) v → (0 < length v) × (get_or v 0 0 ≡ 123)
-object_brace ms v (empty_object w) = (omega arith, refl)
-object_brace ms v (is_object m) = (omega arith, refl)
-
-pub object_first : (t : Json) (ms : Membs) (v : List ℕ) → Value t v → t ≡ jobject ms → (0 < length v) × (get_or v 0 0 ≡ 123)
-object_first t ms v v-is e = object_brace ms v (subst (λ u. Value u v) e v-is)
-
 pub object_by_first : (t : Json) (v : List ℕ) → Value t v → get_or v 0 0 ≡ 123 → (ms : Membs) × (t ≡ jobject ms)
 object_by_first t v v-is e = object_by t (subst (λ b. opening t b ≡ true) e (first_opens t v v-is))
 
@@ -62,10 +55,3 @@ unquoted_bytes v s e =
 
 pub string_first : (t : Json) (v : List ℕ) → Value t v → get_or v 0 0 ≡ 34 → (s : List ℕ) × (t ≡ jstring s)
 string_first t v v-is e = string_by t (subst (λ b. opening t b ≡ true) e (first_opens t v v-is))
-
-pub when_eqb : {P Q : Type 0} (a b : ℕ) → (a ≡ b → P) → ((a ≡ b → ⊥) → Q) → MatchBool (eqb a b) P Q
-when_eqb {P} {Q} a b p q = go (eqb a b) refl
-  where
-    go : (t : Bool) → eqb a b ≡ t → MatchBool t P Q
-    go true h = p (eqb-true a b h)
-    go false h = q (eqb-false a b h)

@@ -1,4 +1,5 @@
 pub mod Members
+pub mod Lefts
 pub mod Walks
 pub mod Slots
 pub mod Kinds

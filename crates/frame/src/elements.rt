@@ -1,10 +1,10 @@
 // The values of an array in a text that is known to be JSON.
+ghost use Rattle.std.specs.Prelude.{ℕ, List, MatchOption};
 ghost use Rattle.frame.specs.Kinds.{At};
 ghost use Rattle.frame.specs.Walks.{AheadIn, NoValues, TakenOff, Values};
 ghost use Rattle.json_text.specs.Grammar.{Elems, Json};
-ghost use Rattle.std.specs.Option.{MatchOption};
 
-use crate::members::after;
+use crate::walk::after;
 use json_text::{skip_white, split_value};
 
 // A value and what follows the comma after it, or nothing where it was the last.
@@ -16,7 +16,7 @@ pub struct Element<'a> {
 
 // Takes the first value off.
 pub fn next_element<'a>(s: &'a [u8]) -> Element<'a>
-    ensures { (es : Elems) → AheadIn es s.now → TakenOff es result.value.now result.rest }
+    ensures { (es : Elems) (end : List ℕ) → AheadIn es s.now end → TakenOff es result.value.now result.rest end }
 {
     let (value, behind) = split_value(skip_white(s));
     let rest = after(behind, b',');

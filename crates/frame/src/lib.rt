@@ -7,9 +7,11 @@ mod elements;
 mod members;
 mod slot;
 mod texts;
+mod walk;
 
-pub use array::find_call;
+pub use array::{find_call, open_call};
 pub use call::Parts;
-pub use members::{after, find_member, optional, required};
+pub use members::{find_inside, find_member, note, optional, required};
 pub use slot::Slot;
 pub use texts::{is_string, is_two, string_bytes};
+pub use walk::{Collects, after, collect, cut};

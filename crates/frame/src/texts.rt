@@ -22,21 +22,15 @@ pub fn is_two(value: &[u8]) -> bool
 pub fn is_object(value: &[u8]) -> bool
     ensures { (tree : Json) → Value tree value.now → MatchBool result ((ms : Membs) × (tree ≡ jobject ms)) ((ms : Membs) → tree ≢ jobject ms) }
 {
-    if value.is_empty() {
-        return false;
-    }
-    value[0] == b'{'
+    matches!(value, [b'{', ..])
 }
 
 // The bytes of a string between its quotes.
 pub fn string_bytes(value: &[u8]) -> Option<&[u8]>
     ensures { (tree : Json) → Value tree value.now → MatchOption result ((s : List ℕ) → tree ≢ jstring s) (λ x. tree ≡ jstring x.now) }
 {
-    if value.len() < 2 {
-        return None;
+    match value {
+        [b'"', bytes @ .., _] => Some(bytes),
+        _ => None,
     }
-    if value[0] != b'"' {
-        return None;
-    }
-    Some(&value[1..value.len() - 1])
 }

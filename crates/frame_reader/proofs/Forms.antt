@@ -1,15 +1,11 @@
 -- Words, numbers and literals by their bytes. Assumes nothing.
-use Rattle.std.proofs.Common.{◌≡◌, ℕ, ◌-◌, ◌^◌, ◌<◌, ◌≤◌, min, Bool, true, false, List, [], ◌∷◌, ◌++◌, length, get_or, take, Ok, Err, codes, decimal, Result, sym, refl, ap, ◌∙◌, subst, arith, length-append, MatchOption, MatchResult}
+use Rattle.std.proofs.Common.{◌≡◌, ℕ, ◌-◌, ◌^◌, ◌<◌, ◌≤◌, min, Bool, true, false, List, [], ◌∷◌, ◌++◌, length, get_or, take, Some, None, Ok, Err, codes, decimal, Option, ◌≢◌, Result, sym, refl, ap, ◌∙◌, subst, arith, length-append, MatchOption, MatchResult}
 use Rattle.calendar.specs.Calendar.{Denotes, NoSecond}
 use Rattle.decimal.proofs.Plain.{decimal_plain, plain_decimal, value_plain}
 use Rattle.decimal.proofs.Widths.{length_fixed}
 use Rattle.decimal.specs.Decimal.{PlainText, fixed, value}
 use Rattle.event.specs.Lawful.{largest_register}
-use Rattle.event.specs.declared.events.EventType.{EventType}
-use Rattle.event.specs.declared.events.EventType.TheVariants.{Started, Updated, Ended}
-use Rattle.event.specs.declared.events.TriggerReason.{TriggerReason}
-use Rattle.event.specs.declared.events.TriggerReason.TheVariants.{CablePluggedIn, MeterValuePeriodic, EVDeparted}
-use Rattle.frame_reader.specs.Frame.{flag, reason_text, type_text}
+use Rattle.frame_reader.specs.Frame.{flag}
 use Rattle.frame_reader.specs.Values.{NoNumber, NoTime, TimeIn}
 use Rattle.frame.proofs.Openings.{opening}
 use Rattle.frame.proofs.Scalars.{first_opens, number_bytes_are}
@@ -22,19 +18,6 @@ use Rattle.refusal.specs.declared.Refusal.TheVariants.{BadValue}
 use Rattle.std.proofs.lemmas.List.{take_at}
 use Rattle.std.proofs.lemmas.Bool.{eqb-true, false≢true}
 use Rattle.std.specs.Result.{result_ok}
-
--- a word that is none of the three
-pub no_type : (tree : Json) → (tree ≡ jstring (codes "Started") → ⊥) → (tree ≡ jstring (codes "Updated") → ⊥) → (tree ≡ jstring (codes "Ended") → ⊥)
-    → (kind : EventType) → tree ≡ jstring (type_text kind) → ⊥
-no_type tree a b c Started e = a e
-no_type tree a b c Updated e = b e
-no_type tree a b c Ended e = c e
-
-pub no_reason : (tree : Json) → (tree ≡ jstring (codes "CablePluggedIn") → ⊥) → (tree ≡ jstring (codes "MeterValuePeriodic") → ⊥) → (tree ≡ jstring (codes "EVDeparted") → ⊥)
-    → (reason : TriggerReason) → tree ≡ jstring (reason_text reason) → ⊥
-no_reason tree a b c CablePluggedIn e = a e
-no_reason tree a b c MeterValuePeriodic e = b e
-no_reason tree a b c EVDeparted e = c e
 
 -- only true begins with a t, only false with an f
 true_by : (t : Json) → opening t 116 ≡ true → t ≡ jtrue
@@ -127,3 +110,9 @@ pub time_cases : (tree : Json) (text : List ℕ) (r : Result ℕ Refusal) → tr
 time_cases tree text (Ok time) is d = record { written = text; is = is; denotes = d }
 time_cases tree text (Err e) is d = λ time t.
     d.1 time (subst (λ s. Denotes s time) (same_string (sym t.is ∙ is)) t.denotes)
+
+-- a string that is a name, or none
+pub named_cases : {K : Type 0} (named : K → List ℕ) (tree : Json) (text : List ℕ) (r : Option K) → tree ≡ jstring text → MatchOption r ((kind : K) → text ≢ named kind) (λ kind. text ≡ named kind)
+    → MatchOption r ((kind : K) → tree ≢ jstring (named kind)) (λ kind. tree ≡ jstring (named kind))
+named_cases named tree text None is none = λ kind e. none kind (same_string (sym is ∙ e))
+named_cases named tree text (Some kind) is e = is ∙ ap jstring e

@@ -1,6 +1,4 @@
 pub mod Fronts
-pub mod Looks
-pub mod Fours
 pub mod Onlys
 pub mod Forms
 pub mod Told

@@ -1,12 +1,10 @@
 -- The values that are read, by the trees. Assumes nothing.
 use Rattle.std.proofs.Common.{◌≡◌, ℕ, ◌≤◌, Bool, true, false, List, IfSome, Some, None, Ok, Err, codes, Option, Result, sym, refl, ap, ◌∙◌, subst, arith, Bor, MatchOption}
-use Rattle.frame_reader.specs.Fields.{ElementFinds, IdIn, IdOf, MeterFinds, MeterOf, RegisterFinds, SampleFinds, SampledFinds, UnderIf, ValueIf, in_some, only_object}
+use Rattle.frame_reader.specs.Fields.{ElementFinds, IdIn, IdOf, MeterFinds, OnlyFinds, SampleFinds, SampledFinds, UnderIf, ValueIf, only_object}
 use Rattle.frame_reader.specs.Frame.{NamedMeter, NamedSample}
-use Rattle.frame_reader.specs.Slots.{Bytes, Under}
-use Rattle.frame_reader.specs.declared.fields.Meter.TheVariants.{Unreadable}
+use Rattle.frame.specs.Slots.{Bytes, Under}
 use Rattle.frame_reader.specs.declared.fields.Sample.{Sample}
-use Rattle.frame_reader.proofs.Looks.{Optional}
-use Rattle.frame_reader.specs.Members.{chain, element_of, element_under}
+use Rattle.frame_reader.specs.Members.{chain, element_under}
 use Rattle.frame.specs.Members.{members_of, only_of, under}
 use Rattle.frame_reader.specs.Walks.{NoObject}
 use Rattle.frame.proofs.Fours.{size}
@@ -85,24 +83,39 @@ value_if name ms (Some v) u = subst (λ t. ValueIf t (Some v)) (sym u.is) u.byte
 pub in_id : (tree : Json) (o : Option (Bor (List ℕ))) (v : Bor (List ℕ)) → o ≡ Some v → IdOf tree o → IdIn tree v.now
 in_id tree o v e h = subst (IdOf tree) e h
 
--- the sample in a sampledValue of one object
-pub sampled_in : (tree : Json) (ms : Membs) (r : Result Sample Refusal) → only_object tree ≡ Some ms → SampleFinds ms r → SampledFinds tree (in_some r)
-sampled_in tree ms (Ok s) is (named, of) = (present NamedSample is named, record { sample = ms; is = is; of = of })
-sampled_in tree ms (Err why) is (bad, not_named) = (bad, λ n. not_named (in_present NamedSample is n))
+-- what is found in the only object of an array
+module _ (finds : Membs → Result (Option Sample) Refusal → Type 0) (tree : Json) (r : Result (Option Sample) Refusal) where
+  pub only_none : only_object tree ≡ None → r ≡ Ok None → OnlyFinds finds tree r
+  only_none e h = subst (λ o. MatchOption o (r ≡ Ok None) (λ ms. finds ms r)) (sym e) h
+
+  pub only_some : (ms : Membs) → only_object tree ≡ Some ms → finds ms r → OnlyFinds finds tree r
+  only_some ms e h = subst (λ o. MatchOption o (r ≡ Ok None) (λ ms. finds ms r)) (sym e) h
+
+-- the sample in a sampledValue
+pub sampled_finds : (tree : Json) (r : Result (Option Sample) Refusal) → OnlyFinds SampleFinds tree r → SampledFinds tree r
+sampled_finds tree r h = go (only_object tree) refl r h
+  where
+    go : (o : Option Membs) → only_object tree ≡ o → (r : Result (Option Sample) Refusal) → MatchOption o (r ≡ Ok None) (λ ms. SampleFinds ms r) → SampledFinds tree r
+    go None e r h = subst (SampledFinds tree) (sym h) (absent NamedSample e, e)
+    go (Some ms) e (Ok None) (named, none) = absurd none
+    go (Some ms) e (Ok (Some s)) (named, of) = (present NamedSample e named, record { sample = ms; is = e; of = of })
+    go (Some ms) e (Err why) (bad, not_named) = (bad, λ n. not_named (in_present NamedSample e n))
 
 -- the sample in a meterValue of one object
-pub meter_in : (tree : Json) (ms : Membs) (r : Result (Option Sample) Refusal) → only_object tree ≡ Some ms → ElementFinds ms r → MeterFinds tree r
+meter_in : (tree : Json) (ms : Membs) (r : Result (Option Sample) Refusal) → only_object tree ≡ Some ms → ElementFinds ms r → MeterFinds tree r
 meter_in tree ms (Ok None) is (named, none) =
     (present NamedMeter is named, λ meter sample m-is s-is. not_both none (subst (λ m. element_under (codes "sampledValue") m ≡ Some sample) (same_some m-is is) s-is))
 meter_in tree ms (Ok (Some s)) is (named, i) =
     (present NamedMeter is named, record { meter = ms; sample = i.sample; meter_is = is; sample_is = i.is; of = i.of })
 meter_in tree ms (Err why) is (bad, not_named) = (bad, λ n. not_named (in_present NamedMeter is n))
 
--- a meterValue that is there and tells nothing
-pub unreadable_in : (payload : Membs) (o : Option (Result (Option Sample) Refusal)) → Optional MeterFinds (codes "meterValue") payload (Ok o) → o ≡ Some (Ok None) → RegisterFinds payload (Ok Unreadable)
-unreadable_in payload o h e =
-    let x = subst (λ o. Optional MeterFinds (codes "meterValue") payload (Ok o)) e h in
-    ((x.0, subst (λ u. IfSome (element_of u) NamedMeter) (sym x.1.1) x.1.2.0), subst (λ u. MeterOf u Unreadable) (sym x.1.1) x.1.2.1)
+-- the same of any meterValue
+pub meter_finds : (tree : Json) (r : Result (Option Sample) Refusal) → OnlyFinds ElementFinds tree r → MeterFinds tree r
+meter_finds tree r h = go (only_object tree) refl h
+  where
+    go : (o : Option Membs) → only_object tree ≡ o → MatchOption o (r ≡ Ok None) (λ ms. ElementFinds ms r) → MeterFinds tree r
+    go None e h = subst (MeterFinds tree) (sym h) (absent NamedMeter e, λ meter sample is is-too. not_both e is)
+    go (Some ms) e h = meter_in tree ms r e h
 
 -- the bytes under a name
 pub to_under : (name : List ℕ) (ms : Membs) (v : Bor (List ℕ)) → ((tree : Json) × (under name ms ≡ Some tree) × Bytes tree v) → Under name ms v.now

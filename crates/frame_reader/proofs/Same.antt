@@ -1,5 +1,5 @@
 -- A text is a frame of one transmission at most, and of none where it is refused. Assumes nothing.
-use Rattle.std.proofs.Common.{◌≡◌, ℕ, ◌≤◌, Bool, true, false, cond, eqb, ◌⊎◌, List, [], length, get_or, IsErrAnd, Some, None, Ok, Err, codes, decimal, Option, Result, sym, refl, ap, ◌∙◌, subst, inl, inr, arith, MatchOption}
+use Rattle.std.proofs.Common.{◌≡◌, ℕ, ◌≤◌, Bool, true, false, cond, eqb, ◌⊎◌, List, [], length, get_or, IsErrAnd, Some, None, Ok, Err, codes, decimal, Option, Result, sym, refl, ap, ◌∙◌, subst, inl, inr, arith, MatchOption, ok_or}
 use Rattle.calendar.proofs.Denoted.{reads_back}
 use Rattle.calendar.specs.Calendar.{Denotes}
 use Rattle.decimal.proofs.Plain.{value_plain}
@@ -11,7 +11,8 @@ use Rattle.event.specs.declared.events.Transmission.{Transmission}
 use Rattle.event.specs.declared.events.TriggerReason.{TriggerReason}
 use Rattle.event.specs.declared.events.TriggerReason.TheVariants.{CablePluggedIn, MeterValuePeriodic, EVDeparted}
 use Rattle.frame.specs.Call.{Call, NoCall}
-use Rattle.frame_reader.specs.Frame.{Called, Frame, Named, Parsed, Reads, ReadsAs, Refused, Says, Tells, Timed, flag, longest, reason_text, type_text}
+use Rattle.frame_reader.specs.Frame.{Called, Frame, Named, Parsed, Reads, ReadsAs, Refused, Says, Tells, Timed, flag, longest}
+use Rattle.event.specs.Names.{reason_text, type_text}
 use Rattle.frame_reader.specs.Frame.Refused.{too_long, too_deep, not_json, not_a_frame, bad_members, bad_value}
 use Rattle.frame.specs.Kinds.{At}
 use Rattle.frame_reader.specs.Members.{element_of, element_under}
@@ -30,7 +31,7 @@ use Rattle.json_text.specs.Grammar.Text.{text}
 use Rattle.json_text.specs.Grammar.Json.{jnull, jtrue, jfalse, jnumber, jstring, jarray, jobject}
 use Rattle.json_text.specs.Grammar.Membs.{no_memb}
 use Rattle.refusal.specs.declared.Refusal.{Refusal}
-use Rattle.refusal.specs.declared.Refusal.TheVariants.{BadMembers, NotJson, TooDeep}
+use Rattle.refusal.specs.declared.Refusal.TheVariants.{BadMembers, BadValue, NotAFrame, NotJson, TooDeep}
 
 -- the types and reasons by their first letters
 abbrev type_by : ℕ → EventType
@@ -244,3 +245,14 @@ not_named bytes id payload (Err e) why called same is none = subst (Refused byte
 
 pub at_text : (tree : Json) (bytes : List ℕ) → Text tree bytes → At tree bytes
 at_text tree bytes (text {w = w} {v = v} {x = x} w-is v-is x-is) = record { front = w; value = v; behind = x; whole = refl; white = w-is; is = v-is }
+
+-- no call was found
+pub not_called : {A : Type 0} (P : A → Type 0) (bytes : List ℕ) (tree : Json) (o : Option A) (r : Result Transmission Refusal) (why : Refusal) → Parsed bytes tree → IsErrAnd r (λ e. e ≡ why) → Err why ≡ ok_or o NotAFrame → MatchOption o (NoCall tree) P → Reads bytes r
+not_called P bytes tree o (Ok t) why parsed e is found = absurd e
+not_called P bytes tree None (Err e) why parsed same is none = let named : why ≡ NotAFrame = cc in subst (Refused bytes) (sym (same ∙ named)) (not_a_frame parsed none)
+not_called P bytes tree (Some a) (Err e) why parsed same is found = cc
+
+-- the answer by what the call says
+pub answered : (bytes id : List ℕ) (payload : Membs) (o : Option Transmission) → Called bytes id payload → Named payload → MatchOption o ((t : Transmission) → Says id payload t → ⊥) (Says id payload) → Reads bytes (ok_or o BadValue)
+answered bytes id payload None called named none = bad_value called named none
+answered bytes id payload (Some t) called named says = record { id = id; payload = payload; called = called; named = named; says = says }

@@ -1,13 +1,11 @@
 -- The values of a payload that are read, before their forms are looked at. Assumes nothing.
-use Rattle.std.specs.Prelude.{◌≡◌, ℕ, List, IfSome, Some, None, Ok, Err, codes, Option, Result, MatchOption, MatchResult, ◌≢◌}
+use Rattle.std.specs.Prelude.{◌≡◌, ℕ, List, IfSome, IsSomeAnd, Some, None, Ok, codes, Option, Result, MatchOption, MatchResult, ◌≢◌}
 use Rattle.std.specs.Borrow.{Bor}
 use Rattle.frame_reader.specs.Frame.{May, Must, Named, NamedMeter, NamedSample}
 use Rattle.frame_reader.specs.Members.{element_of, element_under}
 use Rattle.frame.specs.Members.{members_of, under}
-use Rattle.frame_reader.specs.Slots.{Under}
+use Rattle.frame.specs.Slots.{Under}
 use Rattle.frame_reader.specs.declared.fields.Fields.{Fields}
-use Rattle.frame_reader.specs.declared.fields.Meter.{Meter}
-use Rattle.frame_reader.specs.declared.fields.Meter.TheVariants.{Absent, Sampled, Unreadable}
 use Rattle.frame_reader.specs.declared.fields.Sample.{Sample}
 use Rattle.json_text.specs.Grammar.{Json, Membs, Value}
 use Rattle.refusal.specs.declared.Refusal.{Refusal}
@@ -42,8 +40,8 @@ pub record SampleOf (sample : Membs) (s : Sample) : Type 0 where
   pub value : Under (codes "value") sample s.value.now
   pub measurand : UnderIf (codes "measurand") sample s.measurand
 
-abbrev pub SampleFinds : Membs → Result Sample Refusal → Type 0
-SampleFinds sample r = InMembers (NamedSample sample) r (SampleOf sample)
+abbrev pub SampleFinds : Membs → Result (Option Sample) Refusal → Type 0
+SampleFinds sample r = InMembers (NamedSample sample) r (λ o. IsSomeAnd o (SampleOf sample))
 
 -- the sample in the value of meterValue
 pub record SampleIn (tree : Json) (s : Sample) : Type 0 where
@@ -63,13 +61,17 @@ ValueIf None (Some v) = ⊥
 ValueIf (Some tree) None = ⊥
 ValueIf (Some tree) (Some v) = Value tree v.now
 
-abbrev pub MeterOf : Option Json → Meter → Type 0
-MeterOf None Absent = Unit {0}
-MeterOf None Unreadable = ⊥
-MeterOf None (Sampled s) = ⊥
-MeterOf (Some tree) Absent = ⊥
-MeterOf (Some tree) Unreadable = NoSample tree
-MeterOf (Some tree) (Sampled s) = SampleIn tree s
+-- a meterValue that may be there, with the sample in it where there is one to read
+abbrev pub MeterOf : Option Json → Option (Option Sample) → Type 0
+MeterOf None None = Unit {0}
+MeterOf None (Some o) = ⊥
+MeterOf (Some tree) None = ⊥
+MeterOf (Some tree) (Some None) = NoSample tree
+MeterOf (Some tree) (Some (Some s)) = SampleIn tree s
+
+-- what is found in the object that is the only value of the array, nothing where there is none
+abbrev pub OnlyFinds : (Membs → Result (Option Sample) Refusal → Type 0) → Json → Result (Option Sample) Refusal → Type 0
+OnlyFinds finds tree r = MatchOption (only_object tree) (r ≡ Ok None) (λ ms. finds ms r)
 
 -- the sample in the value of sampledValue
 pub record InSampled (tree : Json) (s : Sample) : Type 0 where
@@ -95,14 +97,9 @@ abbrev pub MeterFinds : Json → Result (Option Sample) Refusal → Type 0
 MeterFinds tree r = InMembers (IfSome (only_object tree) NamedMeter) r (λ o. MatchOption o (NoSample tree) (SampleIn tree))
 
 -- and of a payload
-abbrev pub RegisterFinds : Membs → Result Meter Refusal → Type 0
+abbrev pub RegisterFinds : Membs → Result (Option (Option Sample)) Refusal → Type 0
 RegisterFinds payload r =
     InMembers (May (codes "meterValue") payload × IfSome (element_under (codes "meterValue") payload) NamedMeter) r (MeterOf (under (codes "meterValue") payload))
-
--- a value that was found, as one that may be there
-abbrev pub in_some : {A : Type 0} → Result A Refusal → Result (Option A) Refusal
-in_some (Ok a) = Ok (Some a)
-in_some (Err why) = Err why
 
 -- the values of a payload
 pub record FieldsOf (payload : Membs) (f : Fields) : Type 0 where

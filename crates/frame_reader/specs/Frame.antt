@@ -2,12 +2,9 @@
 use Rattle.std.specs.Prelude.{◌≡◌, ℕ, ◌<◌, ◌≤◌, Bool, true, false, List, length, IfSome, Some, None, Ok, codes, decimal, Result, MatchOption, MatchResult}
 use Rattle.calendar.specs.Calendar.{Denotes}
 use Rattle.event.specs.Lawful.{LawfulTransmission}
+use Rattle.event.specs.Names.{reason_text, type_text}
 use Rattle.event.specs.declared.events.Event.{Event}
-use Rattle.event.specs.declared.events.EventType.{EventType}
-use Rattle.event.specs.declared.events.EventType.TheVariants.{Started, Updated, Ended}
 use Rattle.event.specs.declared.events.Transmission.{Transmission}
-use Rattle.event.specs.declared.events.TriggerReason.{TriggerReason}
-use Rattle.event.specs.declared.events.TriggerReason.TheVariants.{CablePluggedIn, MeterValuePeriodic, EVDeparted}
 use Rattle.frame.specs.Call.{Call, NoCall}
 use Rattle.frame_reader.specs.Members.{element_under, object_under}
 use Rattle.frame.specs.Members.{count, under}
@@ -17,17 +14,6 @@ use Rattle.json_text.specs.Grammar.{Json, Membs, Text}
 use Rattle.json_text.specs.Grammar.Json.{jfalse, jnumber, jstring, jtrue}
 use Rattle.refusal.specs.declared.Refusal.{Refusal}
 use Rattle.refusal.specs.declared.Refusal.TheVariants.{BadMembers, BadValue, NotAFrame, NotJson, TextTooLong, TooDeep}
-
--- the words of the types and the reasons
-abbrev pub type_text : EventType → List ℕ
-type_text Started = codes "Started"
-type_text Updated = codes "Updated"
-type_text Ended = codes "Ended"
-
-abbrev pub reason_text : TriggerReason → List ℕ
-reason_text CablePluggedIn = codes "CablePluggedIn"
-reason_text MeterValuePeriodic = codes "MeterValuePeriodic"
-reason_text EVDeparted = codes "EVDeparted"
 
 abbrev pub flag : Bool → Json
 flag true = jtrue

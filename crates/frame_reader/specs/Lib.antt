@@ -1,7 +1,5 @@
 pub mod Members
-pub mod Lefts
 pub mod Walks
-pub mod Slots
 pub mod Frame
 pub mod Fields
 pub mod Payload

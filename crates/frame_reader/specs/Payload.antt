@@ -1,7 +1,7 @@
 -- What a walk through the members of a payload finds. Assumes nothing.
 use Rattle.std.specs.Prelude.{codes}
 use Rattle.frame_reader.specs.Fields.{IdFinds, MeterFinds}
-use Rattle.frame_reader.specs.Slots.{Bytes, Found, SoFar}
+use Rattle.frame.specs.Slots.{Bytes, Found, SoFar}
 use Rattle.frame_reader.specs.declared.payload.Payload.{Payload}
 use Rattle.json_text.specs.Grammar.{Membs}
 

@@ -1,12 +1,12 @@
 // The values of a payload that are read, as they are written.
 ghost use Rattle.frame_reader.specs.Fields.{Finds, MeterFinds, RegisterFinds};
 ghost use Rattle.frame_reader.specs.Payload.{FoundAll};
-ghost use Rattle.frame_reader.specs.Slots.{Found};
+ghost use Rattle.frame.specs.Slots.{Found};
 ghost use Rattle.json_text.specs.Grammar.{Membs};
 ghost use Rattle.std.specs.Prelude.{codes};
 
 use crate::payload::Payload;
-use crate::slot::Slot;
+use frame::Slot;
 use refusal::Refusal;
 
 // The element of sampledValue.
@@ -14,15 +14,6 @@ use refusal::Refusal;
 pub struct Sample<'a> {
     pub value: &'a [u8],
     pub measurand: Option<&'a [u8]>,
-}
-
-#[derive(Clone, Copy)]
-pub enum Meter<'a> {
-    // there is no meterValue
-    Absent,
-    // a meterValue or sampledValue of another kind or length, in which nothing is read
-    Unreadable,
-    Sampled(Sample<'a>),
 }
 
 #[derive(Clone, Copy)]
@@ -34,22 +25,17 @@ pub struct Fields<'a> {
     pub offline: Option<&'a [u8]>,
     // nothing where transactionInfo is of another kind
     pub transaction_id: Option<&'a [u8]>,
-    pub meter: Meter<'a>,
+    // nothing where there is no meterValue; Some(None) where it or its sampledValue is of another kind or length
+    pub meter: Option<Option<Sample<'a>>>,
 }
 
 // What the meterValue of a payload holds, where there is one.
 fn find_register<'a>(
     meter_value: Slot<Result<Option<Sample<'a>>, Refusal>>,
-) -> Result<Meter<'a>, Refusal>
+) -> Result<Option<Option<Sample<'a>>>, Refusal>
     ensures { (payload : Membs) → Found MeterFinds meter_value.entry (codes "meterValue") payload → RegisterFinds payload result }
 {
-    let Some(sample) = meter_value.optional()? else {
-        return Ok(Meter::Absent);
-    };
-    match sample? {
-        Some(sample) => Ok(Meter::Sampled(sample)),
-        None => Ok(Meter::Unreadable),
-    }
+    meter_value.optional()?.transpose()
 }
 
 impl<'a> Fields<'a> {

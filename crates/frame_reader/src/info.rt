@@ -1,22 +1,19 @@
 // The transaction id in a transactionInfo.
 ghost use Rattle.std.specs.Prelude.{◌≤◌, length, codes};
 ghost use Rattle.frame_reader.specs.Fields.{IdFinds};
-ghost use Rattle.frame_reader.specs.Slots.{Bytes, Found};
-ghost use Rattle.frame_reader.specs.Walks.{Through};
+ghost use Rattle.frame.specs.Slots.{Bytes, Found};
+ghost use Rattle.frame.specs.Walks.{Through};
 ghost use Rattle.json_text.specs.Grammar.{Membs};
 ghost use Rattle.json_text.specs.Grammar.Json.{jobject};
 
-use crate::members::{cut, find_member};
-use crate::slot::Slot;
-use frame::after;
+use frame::{Slot, after, cut, find_inside};
 use refusal::Refusal;
 
 // The id by what stands under its name.
 fn id_of<'a>(id: Slot<&'a [u8]>) -> Result<Option<&'a [u8]>, Refusal>
     ensures { (info : Membs) → Found Bytes id.entry (codes "transactionId") info → IdFinds (jobject info) result }
 {
-    let id = id.required()?;
-    Ok(Some(id))
+    id.required().map(Some)
 }
 
 // The id in the transactionInfo at the front, and what follows that.
@@ -28,6 +25,6 @@ pub fn find_id<'a>(s: &'a [u8]) -> (Result<Option<&'a [u8]>, Refusal>, &'a [u8])
         let (_, behind) = cut(s);
         return (Ok(None), behind);
     };
-    let (id, behind) = find_member(inside, b"\"transactionId\"");
+    let (id, behind) = find_inside(inside, b"\"transactionId\"");
     (id_of(id), behind)
 }

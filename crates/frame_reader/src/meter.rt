@@ -1,15 +1,16 @@
 // The sample in a meterValue.
-ghost use Rattle.std.specs.Prelude.{◌≡◌, ℕ, ◌<◌, ◌≤◌, List, length, IfSome, None, Ok, codes, MatchOption};
-ghost use Rattle.frame_reader.specs.Fields.{ElementFinds, MeterFinds, SampleFinds, SampledFinds, in_some};
-ghost use Rattle.frame_reader.specs.Slots.{Bytes, Found, SoFar};
-ghost use Rattle.frame_reader.specs.Walks.{Begins, FirstObject, NoObject, Taken, Through, ThroughObject};
+ghost use Rattle.std.specs.Prelude.{◌≡◌, ℕ, ◌<◌, ◌≤◌, List, length, IfSome, None, Ok, Option, Result, codes, MatchOption};
+ghost use Rattle.frame.specs.Slots.{Bytes, SoFar};
+ghost use Rattle.frame.specs.Walks.{Begins, Through};
+ghost use Rattle.frame_reader.specs.Fields.{ElementFinds, MeterFinds, OnlyFinds, SampleFinds, SampledFinds};
+ghost use Rattle.frame_reader.specs.Walks.{FirstObject, NoObject};
+ghost use Rattle.frame_reader.specs.declared.fields.Sample.{Sample as Found};
 ghost use Rattle.json_text.specs.Grammar.{Json, Membs};
+ghost use Rattle.json_text.specs.Grammar.Membs.{no_memb};
+ghost use Rattle.refusal.specs.declared.Refusal.{Refusal as Why};
 
 use crate::fields::Sample;
-use crate::left::Left;
-use crate::members::{cut, first_member, next_member, note, take_name};
-use crate::slot::Slot;
-use frame::after;
+use frame::{Collects, Slot, after, collect, cut, note};
 use refusal::Refusal;
 
 // What stands after the brace, where the value at the front is an array that begins with an object.
@@ -30,39 +31,69 @@ fn unreadable<'a>(s: &'a [u8]) -> (Result<Option<Sample<'a>>, Refusal>, &'a [u8]
     (Ok(None), behind)
 }
 
-// The sample by what stands under its names.
-fn sample_of<'a>(value: Slot<&'a [u8]>, measurand: Slot<&'a [u8]>) -> Result<Sample<'a>, Refusal>
-    ensures { (sample : Membs) → Found Bytes value.entry (codes "value") sample → Found Bytes measurand.entry (codes "measurand") sample → SampleFinds sample result }
-{
-    let value = value.required()?;
-    let measurand = measurand.optional()?;
-    Ok(Sample { value, measurand })
+// Finds a sample by the members of an object.
+trait FindsSample<'a>: Collects<'a> + Copy {
+    // What is found in an object with these members.
+    ghost finds: { Membs → Result (Option Found) Why → Type 0 };
+
+    fn start() -> Self
+        ensures { (ms : Membs) → Self.so_far result result ms ms };
+
+    // The sample, nothing where there is none to read.
+    fn finish(self) -> Result<Option<Sample<'a>>, Refusal>
+        ensures { (start : Self) (ms : Membs) → Self.so_far start self ms no_memb → finds ms result };
 }
 
-// The sample in the element of sampledValue after its brace, and what follows that.
-fn find_sample<'a>(s: &'a [u8]) -> (Result<Sample<'a>, Refusal>, &'a [u8])
-    ensures through { ThroughObject SampleFinds s.now result.0 result.1.now }
+// The sample in the object that is the only value of the array at the front, nothing where it is of another kind or
+// length; also what follows it.
+fn find_only<'a, C: FindsSample<'a>>(s: &'a [u8]) -> (Result<Option<Sample<'a>>, Refusal>, &'a [u8])
+    ensures through { Through (OnlyFinds C.finds) s.now result.0 result.1.now }
     ensures bound { length result.1.now ≤ length s.now }
 {
-    let mut value = Slot::Missing;
-    let mut measurand = Slot::Missing;
-    let mut left = first_member(s);
-    while let Left::More(member) = left {
-        let (called, start) = take_name(member);
-        let (bytes, behind) = cut(start);
-        value = note(value, called, bytes, b"\"value\"");
-        measurand = note(measurand, called, bytes, b"\"measurand\"");
-        left = next_member(behind);
+    let Some(inside) = first_object(s) else {
+        return unreadable(s);
+    };
+    let mut found = C::start();
+    let behind = collect(&mut found, inside);
+    match after(behind, b']') {
+        Some(rest) => (found.finish(), rest),
+        None => unreadable(s),
     }
-    (sample_of(value, measurand), left.bytes())
 }
 
-// There is a sample where its members are named well.
-fn some_sample<'a>(sample: Result<Sample<'a>, Refusal>) -> Result<Option<Sample<'a>>, Refusal>
-    ensures { result ≡ in_some sample.entry }
-{
-    let sample = sample?;
-    Ok(Some(sample))
+// The members of the element of sampledValue that are read.
+#[derive(Clone, Copy)]
+struct SampleMembers<'a> {
+    value: Slot<&'a [u8]>,
+    measurand: Slot<&'a [u8]>,
+}
+
+impl<'a> Collects<'a> for SampleMembers<'a> {
+    ghost so_far = { λ _ found ms left. SoFar Bytes found.value (codes "value") ms left × SoFar Bytes found.measurand (codes "measurand") ms left };
+
+    fn take(&mut self, called: &[u8], value: &'a [u8]) -> &'a [u8] {
+        let (value, behind) = cut(value);
+        self.value = note(self.value, called, value, b"\"value\"");
+        self.measurand = note(self.measurand, called, value, b"\"measurand\"");
+        behind
+    }
+}
+
+impl<'a> FindsSample<'a> for SampleMembers<'a> {
+    ghost finds = { SampleFinds };
+
+    fn start() -> Self {
+        SampleMembers {
+            value: Slot::Missing,
+            measurand: Slot::Missing,
+        }
+    }
+
+    fn finish(self) -> Result<Option<Sample<'a>>, Refusal> {
+        let value = self.value.required()?;
+        let measurand = self.measurand.optional()?;
+        Ok(Some(Sample { value, measurand }))
+    }
 }
 
 // The sample in the sampledValue at the front, nothing where it is of another kind or length; also what follows it.
@@ -70,59 +101,44 @@ fn find_sampled<'a>(s: &'a [u8]) -> (Result<Option<Sample<'a>>, Refusal>, &'a [u
     ensures through { Through SampledFinds s.now result.0 result.1.now }
     ensures bound { length result.1.now ≤ length s.now }
 {
-    let Some(inside) = first_object(s) else {
-        return unreadable(s);
-    };
-    let (sample, behind) = find_sample(inside);
-    match after(behind, b']') {
-        Some(rest) => (some_sample(sample), rest),
-        None => unreadable(s),
-    }
+    find_only::<SampleMembers<'a>>(s)
 }
 
-// One member more of the element of meterValue, by its name and value: a sampledValue goes into the slot. Gives what
-// follows the value.
-fn take_sampled<'a>(
-    found: &mut Slot<Result<Option<Sample<'a>>, Refusal>>,
-    called: &[u8],
-    value: &'a [u8],
-) -> &'a [u8]
-    ensures through { (end : List ℕ) (ms left : Membs) (t : Taken left called.now value.now end) → SoFar SampledFinds found.old (codes "sampledValue") ms left → SoFar SampledFinds found.new (codes "sampledValue") ms t.others × (result.now ≡ t.behind) }
-    ensures bound { length result.now ≤ length value.now }
-{
-    if called == b"\"sampledValue\"".as_slice() {
-        let (sampled, behind) = find_sampled(value);
-        *found = found.add(sampled);
-        behind
-    } else {
+const SAMPLED_VALUE: &[u8] = b"\"sampledValue\"";
+
+// The member of the element of meterValue that is read.
+#[derive(Clone, Copy)]
+struct MeterMembers<'a> {
+    // the sample in it, nothing where it is of another kind or length
+    sampled_value: Slot<Result<Option<Sample<'a>>, Refusal>>,
+}
+
+impl<'a> Collects<'a> for MeterMembers<'a> {
+    ghost so_far = { λ _ found ms left. SoFar SampledFinds found.sampled_value (codes "sampledValue") ms left };
+
+    fn take(&mut self, called: &[u8], value: &'a [u8]) -> &'a [u8] {
+        if called == SAMPLED_VALUE {
+            let (sampled, behind) = find_sampled(value);
+            self.sampled_value = self.sampled_value.add(sampled);
+            return behind;
+        }
         let (_, behind) = cut(value);
         behind
     }
 }
 
-// The sample by what stands under sampledValue.
-fn meter_of<'a>(
-    sampled: Slot<Result<Option<Sample<'a>>, Refusal>>,
-) -> Result<Option<Sample<'a>>, Refusal>
-    ensures { (meter : Membs) → Found SampledFinds sampled.entry (codes "sampledValue") meter → ElementFinds meter result }
-{
-    let sampled = sampled.required()?;
-    sampled
-}
+impl<'a> FindsSample<'a> for MeterMembers<'a> {
+    ghost finds = { ElementFinds };
 
-// The sample in the element of meterValue after its brace, and what follows that.
-fn find_element<'a>(s: &'a [u8]) -> (Result<Option<Sample<'a>>, Refusal>, &'a [u8])
-    ensures through { ThroughObject ElementFinds s.now result.0 result.1.now }
-    ensures bound { length result.1.now ≤ length s.now }
-{
-    let mut found = Slot::Missing;
-    let mut left = first_member(s);
-    while let Left::More(member) = left {
-        let (called, value) = take_name(member);
-        let behind = take_sampled(&mut found, called, value);
-        left = next_member(behind);
+    fn start() -> Self {
+        MeterMembers {
+            sampled_value: Slot::Missing,
+        }
     }
-    (meter_of(found), left.bytes())
+
+    fn finish(self) -> Result<Option<Sample<'a>>, Refusal> {
+        self.sampled_value.required()?
+    }
 }
 
 // The sample in the meterValue at the front, nothing where it or its sampledValue is of another kind or length; also
@@ -131,12 +147,5 @@ pub fn find_meter<'a>(s: &'a [u8]) -> (Result<Option<Sample<'a>>, Refusal>, &'a 
     ensures through { Through MeterFinds s.now result.0 result.1.now }
     ensures bound { length result.1.now ≤ length s.now }
 {
-    let Some(inside) = first_object(s) else {
-        return unreadable(s);
-    };
-    let (meter, behind) = find_element(inside);
-    match after(behind, b']') {
-        Some(rest) => (meter, rest),
-        None => unreadable(s),
-    }
+    find_only::<MeterMembers<'a>>(s)
 }

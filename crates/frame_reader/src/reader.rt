@@ -22,12 +22,7 @@ pub fn read(text: &[u8]) -> Result<Transmission, Refusal>
         return Err(Refusal::TextTooLong);
     }
     json_text::check(text)?;
-    let Some(call) = find_call(text) else {
-        return Err(Refusal::NotAFrame);
-    };
+    let call = find_call(text).ok_or(Refusal::NotAFrame)?;
     let fields = Fields::find(call.payload)?;
-    match transmission(fields, call.id) {
-        Some(transmission) => Ok(transmission),
-        None => Err(Refusal::BadValue),
-    }
+    transmission(fields, call.id).ok_or(Refusal::BadValue)
 }

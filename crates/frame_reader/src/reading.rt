@@ -9,8 +9,8 @@ ghost use Rattle.frame.specs.Members.{under};
 ghost use Rattle.ids.specs.Ids.{MessageWritten};
 ghost use Rattle.json_text.specs.Grammar.{Json, Membs};
 
-use crate::fields::{Fields, Meter, Sample};
-use crate::values::{event_type, is_front, number, time, trigger_reason, truth};
+use crate::fields::{Fields, Sample};
+use crate::values::{is_front, named, number, time, truth};
 use event::{Event, Register, Transmission};
 use frame::is_string;
 use ids::MessageId;
@@ -19,10 +19,7 @@ use ids::MessageId;
 fn flag(value: Option<&[u8]>) -> Option<bool>
     ensures { (tree : Option Json) → ValueIf tree value.entry → MatchOption result ((b : Bool) → FlagIs tree b → ⊥) (FlagIs tree) }
 {
-    match value {
-        Some(value) => truth(value),
-        None => Some(false),
-    }
+    value.map_or(Some(false), truth)
 }
 
 // The measurand is the register's, or missing.
@@ -46,17 +43,14 @@ fn sampled(sample: Sample<'_>) -> Option<Register>
 }
 
 // The register, which may be absent; nothing where there is a meterValue that does not tell one.
-fn register(meter: Meter<'_>) -> Option<Option<Register>>
+fn register(meter: Option<Option<Sample<'_>>>) -> Option<Option<Register>>
     ensures { (payload : Membs) → MeterOf (under (codes "meterValue") payload) meter.entry → MatchOption result (NoRegister payload) (RegisterIs payload) }
 {
-    match meter {
-        Meter::Absent => Some(None),
-        Meter::Unreadable => None,
-        Meter::Sampled(sample) => {
-            let register = sampled(sample)?;
-            Some(Some(register))
-        }
-    }
+    let Some(sample) = meter else {
+        return Some(None);
+    };
+    let register = sampled(sample?)?;
+    Some(Some(register))
 }
 
 // The event that the payload tells, of the message id's station, session and number.
@@ -77,11 +71,11 @@ fn told(fields: Fields<'_>, id: &[u8], message: MessageId) -> Option<Event>
         station: message.station as u16,
         session: message.session as u32,
         number: message.number as u16,
-        kind: event_type(fields.event_type)?,
+        kind: named(fields.event_type)?,
         time: time(fields.timestamp)?,
         offline: flag(fields.offline)?,
         register: register(fields.meter)?,
-        reason: trigger_reason(fields.trigger_reason)?,
+        reason: named(fields.trigger_reason)?,
     })
 }
 

@@ -1,44 +1,21 @@
 // The forms of the values that are read.
 ghost use Rattle.std.specs.Prelude.{◌≡◌, ℕ, ◌≤◌, Bool, decimal, Decides, MatchOption, ◌≢◌};
 ghost use Rattle.event.specs.Lawful.{largest_register};
-ghost use Rattle.event.specs.declared.events.EventType.{EventType as Kind};
-ghost use Rattle.event.specs.declared.events.TriggerReason.{TriggerReason as Reason};
-ghost use Rattle.frame_reader.specs.Frame.{flag, reason_text, type_text};
+ghost use Rattle.frame_reader.specs.Frame.{flag};
 ghost use Rattle.frame_reader.specs.Values.{NoNumber, NoTime, TimeIn};
 ghost use Rattle.ids.specs.Ids.{id_text, message_id_text};
 ghost use Rattle.json_text.specs.Grammar.{Json, Value};
 ghost use Rattle.json_text.specs.Grammar.Json.{jnumber, jstring};
 
 use decimal::plain_value;
-use event::{EventType, LARGEST_REGISTER, TriggerReason};
-use frame::{is_string, string_bytes};
+use event::{LARGEST_REGISTER, Named, find_named};
+use frame::string_bytes;
 
-pub fn event_type(value: &[u8]) -> Option<EventType>
-    ensures { (tree : Json) → Value tree value.now → MatchOption result ((kind : Kind) → tree ≢ jstring (type_text kind)) (λ kind. tree ≡ jstring (type_text kind)) }
+// The kind that the value names.
+pub fn named<K: Named + 'static>(value: &[u8]) -> Option<K>
+    ensures { (tree : Json) → Value tree value.now → MatchOption result ((kind : K) → tree ≢ jstring (K.named kind)) (λ kind. tree ≡ jstring (K.named kind)) }
 {
-    if is_string(value, b"\"Started\"") {
-        Some(EventType::Started)
-    } else if is_string(value, b"\"Updated\"") {
-        Some(EventType::Updated)
-    } else if is_string(value, b"\"Ended\"") {
-        Some(EventType::Ended)
-    } else {
-        None
-    }
-}
-
-pub fn trigger_reason(value: &[u8]) -> Option<TriggerReason>
-    ensures { (tree : Json) → Value tree value.now → MatchOption result ((reason : Reason) → tree ≢ jstring (reason_text reason)) (λ reason. tree ≡ jstring (reason_text reason)) }
-{
-    if is_string(value, b"\"CablePluggedIn\"") {
-        Some(TriggerReason::CablePluggedIn)
-    } else if is_string(value, b"\"MeterValuePeriodic\"") {
-        Some(TriggerReason::MeterValuePeriodic)
-    } else if is_string(value, b"\"EVDeparted\"") {
-        Some(TriggerReason::EVDeparted)
-    } else {
-        None
-    }
+    find_named(string_bytes(value)?)
 }
 
 pub fn truth(value: &[u8]) -> Option<bool>

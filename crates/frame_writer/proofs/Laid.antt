@@ -7,7 +7,8 @@ use Rattle.draft.proofs.Chains.{whole}
 use Rattle.event.specs.declared.events.Event.{Event}
 use Rattle.event.specs.declared.events.Transmission.{Transmission}
 use Rattle.frame.specs.Call.{array_of_four}
-use Rattle.frame_reader.specs.Frame.{flag, reason_text, type_text}
+use Rattle.frame_reader.specs.Frame.{flag}
+use Rattle.event.specs.Names.{reason_text, type_text}
 use Rattle.frame_writer.specs.Compact.{compact, members, other_members}
 use Rattle.frame_writer.specs.Tree.{bytes_of, message_id, meter_value, payload, payload_with}
 use Rattle.ids.specs.Ids.{id_text, message_id_text}

@@ -1,5 +1,5 @@
 -- The texts in a frame are strings and numbers of JSON. Assumes nothing.
-use Rattle.std.proofs.Common.{◌≡◌, ℕ, zero, suc, ◌+◌, ◌/◌, ◌%◌, ◌^◌, ◌<◌, Bool, true, ◌&&◌, List, [], ◌∷◌, ◌++◌, length, codes, decimal, sym, refl, subst, ⊎_elim, append-nil, suc-le-suc, arith}
+use Rattle.std.proofs.Common.{◌≡◌, ℕ, zero, suc, ◌+◌, ◌/◌, ◌%◌, ◌^◌, ◌<◌, ◌≤◌, Bool, true, ◌&&◌, List, [], ◌∷◌, ◌++◌, length, codes, decimal, sym, refl, subst, ⊎_elim, append-nil, suc-le-suc, arith}
 use Rattle.calendar.specs.Calendar.{Denotes, text_of}
 use Rattle.calendar.specs.declared.Civil.{Civil}
 use Rattle.decimal.proofs.Plain.{plain_decimal}
@@ -8,7 +8,7 @@ use Rattle.event.specs.declared.events.EventType.{EventType}
 use Rattle.event.specs.declared.events.EventType.TheVariants.{Started, Updated, Ended}
 use Rattle.event.specs.declared.events.TriggerReason.{TriggerReason}
 use Rattle.event.specs.declared.events.TriggerReason.TheVariants.{CablePluggedIn, MeterValuePeriodic, EVDeparted}
-use Rattle.frame_reader.specs.Frame.{reason_text, type_text}
+use Rattle.event.specs.Names.{reason_text, type_text}
 use Rattle.ids.specs.Ids.{id_text, message_id_text}
 use Rattle.json_text.specs.Grammar.{Chars, Each, Number, Whole, digit, nonzero, plain}
 use Rattle.json_text.specs.Grammar.Chars.{no_char, char, escape, unicode}
@@ -98,3 +98,14 @@ decimal_number n h = subst Number (append-nil (decimal n)) (number no_minus (who
 
 pub two_number : Number (codes "2")
 two_number = number no_minus (from_one refl no_byte) no_fraction no_exponent
+
+-- names are short
+pub type_short : (k : EventType) → length (type_text k) ≤ 7
+type_short Started = omega arith
+type_short Updated = omega arith
+type_short Ended = omega arith
+
+pub reason_short : (r : TriggerReason) → length (reason_text r) ≤ 18
+reason_short CablePluggedIn = omega arith
+reason_short MeterValuePeriodic = omega arith
+reason_short EVDeparted = omega arith

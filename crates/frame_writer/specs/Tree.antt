@@ -4,7 +4,8 @@ use Rattle.calendar.specs.Calendar.{Denotes}
 use Rattle.event.specs.declared.events.Event.{Event}
 use Rattle.event.specs.declared.events.Transmission.{Transmission}
 use Rattle.frame.specs.Call.{array_of_four}
-use Rattle.frame_reader.specs.Frame.{flag, measurand_text, reason_text, type_text}
+use Rattle.frame_reader.specs.Frame.{flag, measurand_text}
+use Rattle.event.specs.Names.{reason_text, type_text}
 use Rattle.frame_writer.specs.Compact.{compact}
 use Rattle.ids.specs.Ids.{id_text, message_id_text}
 use Rattle.json_text.specs.Grammar.{Json, Membs}

@@ -6,9 +6,9 @@ ghost use Rattle.frame_writer.specs.Tree.{bytes_of, message_id, meter_value, pay
 ghost use Rattle.ids.specs.Ids.{id_text};
 ghost use Rattle.json_text.specs.Grammar.Membs.{no_memb};
 
-use crate::words::{flag_word, reason_word, type_word};
+use crate::words::flag_word;
 use draft::Draft;
-use event::{Event, Register, Transmission};
+use event::{Event, Named, Register, Transmission};
 
 // The transaction id: station and session.
 fn push_id(draft: &mut Draft, station: u16, session: u32)
@@ -34,17 +34,17 @@ fn push_message_id(draft: &mut Draft, transmission: Transmission)
 }
 
 // The members of every payload; the stamp is the text of the event's time.
-fn push_event(draft: &mut Draft, event: Event, stamp: &[u8])
-    requires { (length (text_in draft.old) + 200 ≤ most) × (length stamp.now ≡ 20) }
+fn push_event(draft: &mut Draft, event: Event, stamp: &[u8; 20])
+    requires { length (text_in draft.old) + 200 ≤ most }
     ensures text { text_in draft.new ≡ text_in draft.old ++ members (payload_with stamp.now event no_memb) }
     ensures long { length (text_in draft.new) ≤ length (text_in draft.old) + 200 }
 {
     draft.push_text(b"\"eventType\":\"");
-    draft.push_text(type_word(event.kind));
+    draft.push_text(event.kind.name().as_bytes());
     draft.push_text(b"\",\"timestamp\":\"");
     draft.push_text(stamp);
     draft.push_text(b"\",\"triggerReason\":\"");
-    draft.push_text(reason_word(event.reason));
+    draft.push_text(event.reason.name().as_bytes());
     draft.push_text(b"\",\"seqNo\":");
     draft.push_plain(u64::from(event.number));
     draft.push_text(b",\"offline\":");
@@ -55,8 +55,8 @@ fn push_event(draft: &mut Draft, event: Event, stamp: &[u8])
 }
 
 // The member that tells the register.
-fn push_meter(draft: &mut Draft, stamp: &[u8], wh: Register)
-    requires { (length (text_in draft.old) + 150 ≤ most) × (length stamp.now ≡ 20) }
+fn push_meter(draft: &mut Draft, stamp: &[u8; 20], wh: Register)
+    requires { length (text_in draft.old) + 150 ≤ most }
     ensures text { text_in draft.new ≡ text_in draft.old ++ other_members (meter_value stamp.now (Some wh)) }
     ensures long { length (text_in draft.new) ≤ length (text_in draft.old) + 150 }
 {
@@ -68,8 +68,8 @@ fn push_meter(draft: &mut Draft, stamp: &[u8], wh: Register)
 }
 
 // The member that tells the register, or nothing where it is absent.
-fn push_register(draft: &mut Draft, stamp: &[u8], register: Option<Register>)
-    requires { (length (text_in draft.old) + 150 ≤ most) × (length stamp.now ≡ 20) }
+fn push_register(draft: &mut Draft, stamp: &[u8; 20], register: Option<Register>)
+    requires { length (text_in draft.old) + 150 ≤ most }
     ensures text { text_in draft.new ≡ text_in draft.old ++ other_members (meter_value stamp.now register) }
     ensures long { length (text_in draft.new) ≤ length (text_in draft.old) + 150 }
 {
@@ -79,8 +79,7 @@ fn push_register(draft: &mut Draft, stamp: &[u8], register: Option<Register>)
 }
 
 // The whole frame.
-pub(crate) fn frame(transmission: Transmission, stamp: &[u8]) -> Draft
-    requires { length stamp.now ≡ 20 }
+pub(crate) fn frame(transmission: Transmission, stamp: &[u8; 20]) -> Draft
     ensures { text_in result ≡ bytes_of stamp.now transmission }
 {
     let mut draft = Draft::new();

@@ -1,51 +1,43 @@
--- A number and a hyphen at the front of bytes, by their places. Assumes nothing.
-use Rattle.std.proofs.Common.{◌≡◌, ℕ, zero, suc, ◌+◌, ◌<◌, ◌≤◌, List, [], ◌∷◌, ◌++◌, length, get_or, take, drop, sym, refl, ap, ◌∙◌, subst, arith, length-append, take-append-drop, length-take, drop-cons}
-use Rattle.std.proofs.lemmas.List.{take_at, drop_at, get_or_at, append_assoc}
+-- A number and a hyphen at the front of bytes. Assumes nothing.
+use Rattle.std.proofs.Common.{◌≡◌, ℕ, ◌<◌, ◌≤◌, List, ◌∷◌, ◌++◌, length, take, drop, Some, None, Option, MatchOption, sym, ap, ◌∙◌, subst, arith, length-append, take-append-drop, length-take}
+use Rattle.std.proofs.lemmas.List.{take_at, drop_at, append_assoc}
 use Rattle.decimal.proofs.Widths.{length_fixed, same_from_fixed, text_of_width, value_from_text, width_of_text}
 use Rattle.decimal.specs.Decimal.{FixedText, fixed}
-use Rattle.ids.specs.Ids.{Leads, MessageWritten}
+use Rattle.ids.specs.Ids.{Digits, Leads, NoDigits, MessageWritten, Written}
 use Rattle.ids.specs.declared.message.MessageId.{MessageId}
 
--- the bytes from a place on, one by one
-abbrev pub gets : (at w : ℕ) → List ℕ → List ℕ
-gets at zero text = []
-gets at (suc w) text = get_or text at 0 ∷ gets (suc at) w text
-
-pub gets_take : (at w : ℕ) (text : List ℕ) → at + w ≤ length text → gets at w text ≡ take w (drop at text)
-gets_take at zero text h = refl
-gets_take at (suc w) text h =
-    ap (λ l. get_or text at 0 ∷ l) (gets_take (suc at) w text (omega arith)) ∙ sym (ap (take (suc w)) (drop-cons text at 0 (omega arith)))
-
--- the number and the hyphen stand at their places
-pub record Placed (w : ℕ) (text : List ℕ) (n : ℕ) : Type 0 where
+-- the parts that w digits, a hyphen and what follows are of the bytes
+pub record Placed (w : ℕ) (text : List ℕ) (n : ℕ) (rest : List ℕ) : Type 0 where
   pub long : w < length text
-  pub digits : FixedText (gets 0 w text) n
-  pub hyphen : get_or text w 0 ≡ 45
+  pub digits : FixedText (take w text) n
+  pub hyphen : drop w text ≡ 45 ∷ rest
 
-pub placed : (w : ℕ) (text : List ℕ) (n : ℕ) (rest : List ℕ) → 0 < w → w ≤ 18 → Leads w text n rest → Placed w text n
-placed w text n rest some most l =
-    let wide = length_fixed w n in
-    let e = l.bytes in
-    let long : w < length text = omega (arith, ap length e, length-append (fixed w n) (45 ∷ rest)) in
+pub placed : (w : ℕ) (text : List ℕ) (n : ℕ) (rest : List ℕ) → (0 < w) × (w ≤ 18) → Leads w text n rest → Placed w text n rest
+placed w text n rest wide l =
+    let long = length_fixed w n in
     record {
-      long = long;
-      digits =
-          subst (λ l. FixedText l n) (sym (gets_take 0 w text (omega arith) ∙ ap (take w) e ∙ take_at (fixed w n) (45 ∷ rest) w wide))
-          (text_of_width w n some most l.below);
-      hyphen = ap (λ l. get_or l w 0) e ∙ get_or_at (fixed w n) 45 rest 0 w wide;
+      long = omega (arith, ap length l.bytes, length-append (fixed w n) (45 ∷ rest));
+      digits = subst (λ t. FixedText t n) (sym (ap (take w) l.bytes ∙ take_at (fixed w n) (45 ∷ rest) w long)) (text_of_width w n wide.0 wide.1 l.below);
+      hyphen = ap (drop w) l.bytes ∙ drop_at (fixed w n) (45 ∷ rest) w long;
     }
 
-pub leads : (w : ℕ) (text : List ℕ) (n : ℕ) → Placed w text n → Leads w text n (drop (suc w) text)
-leads w text n p =
-    let long = p.long in
-    let front = width_of_text w (take w text) n (length-take w text ∙ omega arith) (subst (λ l. FixedText l n) (gets_take 0 w text (omega arith)) p.digits) in
-    record {
-      below = front.0;
-      bytes =
-          sym (take-append-drop w text)
-          ∙ ap (λ l. take w text ++ l) (drop-cons text w 0 (omega arith) ∙ ap (λ b. b ∷ drop (suc w) text) p.hyphen)
-          ∙ ap (λ l. l ++ 45 ∷ drop (suc w) text) front.1;
-    }
+pub leads : (w : ℕ) (text : List ℕ) (n : ℕ) (rest : List ℕ) → Placed w text n rest → Leads w text n rest
+leads w text n rest p =
+    let front = width_of_text w (take w text) n (length-take w text ∙ omega (arith, p.long)) p.digits in
+    record { below = front.0; bytes = sym (take-append-drop w text) ∙ ap (λ l. take w text ++ l) p.hyphen ∙ ap (λ l. l ++ 45 ∷ rest) front.1 }
+
+-- digits alone
+pub all_digits : (w : ℕ) (text : List ℕ) (n : ℕ) → (0 < w) × (w ≤ 18) → Digits w text n → (length text ≡ w) × FixedText text n
+all_digits w text n wide d = (ap length d.bytes ∙ length_fixed w n, subst (λ t. FixedText t n) (sym d.bytes) (text_of_width w n wide.0 wide.1 d.below))
+
+digits : (w : ℕ) (text : List ℕ) (n : ℕ) → length text ≡ w → FixedText text n → Digits w text n
+digits w text n long t =
+    let is = width_of_text w text n long t in
+    record { below = is.0; bytes = is.1 }
+
+pub digits_read : (w : ℕ) (text : List ℕ) (r : Option ℕ) → (0 < w) × (w ≤ 18) → length text ≡ w → MatchOption r ((n : ℕ) → FixedText text n → ⊥) (FixedText text) → MatchOption r (NoDigits w text) (Digits w text)
+digits_read w text None wide long none = λ n d. none n (all_digits w text n wide d).1
+digits_read w text (Some n) wide long t = digits w text n long t
 
 -- the number and the rest are the only ones
 pub same_lead : (w : ℕ) (text : List ℕ) (m n : ℕ) (r s : List ℕ) → Leads w text m r → Leads w text n s → r ≡ s
@@ -67,26 +59,31 @@ pub number_leads : (text : List ℕ) (id : MessageId) → MessageWritten text id
 number_leads text id m a b r s five eight =
     record { below = m.number_below; bytes = same_lead 8 r b id.session s _ eight (session_leads text id m a r five) }
 
-pub attempt_last : (text : List ℕ) (id : MessageId) → MessageWritten text id → (a b n : ℕ) (r s u : List ℕ) → Leads 5 text a r → Leads 8 r b s → Leads 4 s n u
-    → (length u ≡ 2) × FixedText u id.attempt
+pub attempt_last : (text : List ℕ) (id : MessageId) → MessageWritten text id → (a b n : ℕ) (r s u : List ℕ) → Leads 5 text a r → Leads 8 r b s → Leads 4 s n u → Digits 2 u id.attempt
 attempt_last text id m a b n r s u five eight four =
-    let e = same_lead 4 s n id.number u _ four (number_leads text id m a b r s five eight) in
-    (ap length e ∙ length_fixed 2 id.attempt, subst (λ l. FixedText l id.attempt) (sym e) (text_of_width 2 id.attempt (omega arith) (omega arith) m.attempt_below))
+    record { below = m.attempt_below; bytes = same_lead 4 s n id.number u _ four (number_leads text id m a b r s five eight) }
 
-pub whole_message : (text : List ℕ) (a b n k : ℕ) (r s u : List ℕ) → Leads 5 text a r → Leads 8 r b s → Leads 4 s n u → length u ≡ 2 → FixedText u k
-    → MessageWritten text (record { station = a; session = b; number = n; attempt = k })
-whole_message text a b n k r s u five eight four two last =
-    let end = width_of_text 2 u k two last in
-    record {
-      station_below = five.below;
-      session_below = eight.below;
-      number_below = four.below;
-      attempt_below = end.0;
-      bytes =
-          five.bytes
-          ∙ ap (λ l. fixed 5 a ++ 45 ∷ l) (eight.bytes ∙ ap (λ l. fixed 8 b ++ 45 ∷ l) (four.bytes ∙ ap (λ l. fixed 4 n ++ 45 ∷ l) end.1))
-          ∙ sym (append_assoc (fixed 5 a) (45 ∷ fixed 8 b) (45 ∷ (fixed 4 n ++ 45 ∷ fixed 2 k)));
-    }
+pub whole_message : (text : List ℕ) (a b n k : ℕ) (r s u : List ℕ) → Leads 5 text a r → Leads 8 r b s → Leads 4 s n u → Digits 2 u k → MessageWritten text (record { station = a; session = b; number = n; attempt = k })
+whole_message text a b n k r s u five eight four end = record {
+  station_below = five.below;
+  session_below = eight.below;
+  number_below = four.below;
+  attempt_below = end.below;
+  bytes =
+      five.bytes
+      ∙ ap (λ l. fixed 5 a ++ 45 ∷ l) (eight.bytes ∙ ap (λ l. fixed 8 b ++ 45 ∷ l) (four.bytes ∙ ap (λ l. fixed 4 n ++ 45 ∷ l) end.bytes))
+      ∙ sym (append_assoc (fixed 5 a) (45 ∷ fixed 8 b) (45 ∷ (fixed 4 n ++ 45 ∷ fixed 2 k)));
+}
+
+-- the parts of a transaction id
+pub id_leads : (text : List ℕ) (station session : ℕ) → Written text station session → Leads 5 text station (fixed 8 session)
+id_leads text s n w = record { below = w.station_below; bytes = w.bytes }
+
+pub session_last : (text : List ℕ) (station session : ℕ) → Written text station session → (a : ℕ) (r : List ℕ) → Leads 5 text a r → Digits 8 r session
+session_last text s n w a r five = record { below = w.session_below; bytes = same_lead 5 text a s r _ five (id_leads text s n w) }
+
+pub whole_id : (text : List ℕ) (a b : ℕ) (r : List ℕ) → Leads 5 text a r → Digits 8 r b → Written text a b
+whole_id text a b r five eight = record { station_below = five.below; session_below = eight.below; bytes = five.bytes ∙ ap (λ l. fixed 5 a ++ 45 ∷ l) eight.bytes }
 
 pub same_lead_number : (w : ℕ) (text : List ℕ) (m n : ℕ) (r s : List ℕ) → Leads w text m r → Leads w text n s → m ≡ n
 same_lead_number w text m n r s a b =
@@ -105,7 +102,7 @@ same_message text a b m n =
     let five = station_leads text a m in
     let eight = session_leads text a m _ _ five in
     let four = number_leads text a m _ _ _ _ five eight in
-    let last = (attempt_last text b n _ _ _ _ _ _ five eight four).1 in
+    let last = (all_digits 2 _ b.attempt (omega arith, omega arith) (attempt_last text b n _ _ _ _ _ _ five eight four)).1 in
     record {
       station = same_lead_number 5 text _ _ _ _ five (station_leads text b n);
       session = same_lead_number 8 _ _ _ _ _ eight (session_leads text b n _ _ five);

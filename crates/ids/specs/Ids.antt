@@ -21,6 +21,9 @@ pub record Written (text : List ℕ) (station session : ℕ) : Type 0 where
   pub session_below : session < 10 ^ 8
   pub bytes : text ≡ id_text station session
 
+abbrev pub NotWritten : List ℕ → Type 0
+NotWritten text = (station session : ℕ) → Written text station session → ⊥
+
 -- a station and a session that there can be; eight digits keep the session below its limit
 abbrev pub Possible : (station session : ℕ) → Type 0
 Possible station session = (station ≤ last_station) × (1 ≤ session)
@@ -33,7 +36,7 @@ pub record Id (text : List ℕ) (id : TransactionId) : Type 0 where
 -- why the text gives no id: it is not of the form, or it is and its numbers are out of range
 abbrev pub NoId : List ℕ → Refusal → Type 0
 NoId text why =
-    ((why ≡ BadValue) × ((station session : ℕ) → Written text station session → ⊥))
+    ((why ≡ BadValue) × NotWritten text)
     ⊎ ((why ≡ OutOfRange) × ((station : ℕ) × (session : ℕ) × Written text station session × (Possible station session → ⊥)))
 
 abbrev pub ReadsId : List ℕ → Result TransactionId Refusal → Type 0
@@ -46,6 +49,14 @@ pub record Leads (w : ℕ) (text : List ℕ) (n : ℕ) (rest : List ℕ) : Type 
 
 abbrev pub NoLead : (w : ℕ) → List ℕ → Type 0
 NoLead w text = (n : ℕ) (rest : List ℕ) → Leads w text n rest → ⊥
+
+-- the text is a number in w digits, and this is the number
+pub record Digits (w : ℕ) (text : List ℕ) (n : ℕ) : Type 0 where
+  pub below : n < 10 ^ w
+  pub bytes : text ≡ fixed w n
+
+abbrev pub NoDigits : (w : ℕ) → List ℕ → Type 0
+NoDigits w text = (n : ℕ) → Digits w text n → ⊥
 
 -- the text is a message id, and these are its numbers
 pub record MessageWritten (text : List ℕ) (id : MessageId) : Type 0 where

@@ -3,10 +3,10 @@
 
 mod message;
 
-ghost use Rattle.std.specs.Prelude.{◌≡◌, Decides};
-ghost use Rattle.ids.specs.Ids.{Possible, ReadsId};
+ghost use Rattle.std.specs.Prelude.{◌≡◌, Decides, MatchOption};
+ghost use Rattle.ids.specs.Ids.{NotWritten, Possible, ReadsId, Written};
 
-use decimal::fixed_value;
+use crate::message::{take_last, take_lead};
 pub use message::MessageId;
 use refusal::Refusal;
 use std::fmt;
@@ -24,23 +24,23 @@ fn possible(station: u64, session: u64) -> bool
     station <= u64::from(u16::MAX) && session >= 1
 }
 
-impl TransactionId {
-    // Five digits, a hyphen, eight digits: 56 for any other text, 1 where no station or session has such a number.
-    pub fn read(text: &[u8]) -> Result<TransactionId, Refusal>
-        ensures { ReadsId text.now result }
-    {
-        let [a, b, c, d, e, b'-', session @ ..] = text else {
-            return Err(Refusal::BadValue);
-        };
-        if session.len() != 8 {
-            return Err(Refusal::BadValue);
-        }
-        let Some(station) = fixed_value(&[*a, *b, *c, *d, *e]) else {
-            return Err(Refusal::BadValue);
-        };
-        let Some(session) = fixed_value(session) else {
-            return Err(Refusal::BadValue);
-        };
+// The numbers of a station and a session in five digits, a hyphen and eight digits.
+fn numbers(text: &[u8]) -> Option<(u64, u64)>
+    ensures { MatchOption result (NotWritten text.now) (λ p. Written text.now p.0 p.1) }
+{
+    let station = take_lead::<5>(text)?;
+    let session = take_last::<8>(station.rest)?;
+    Some((station.number, session))
+}
+
+// Five digits, a hyphen, eight digits: 56 for any other text, 1 where no station or session has such a number.
+impl TryFrom<&[u8]> for TransactionId {
+    type Error = Refusal;
+
+    ghost try_from_gives = { λ text. ReadsId text.now };
+
+    fn try_from(text: &[u8]) -> Result<TransactionId, Refusal> {
+        let (station, session) = numbers(text).ok_or(Refusal::BadValue)?;
         if !possible(station, session) {
             return Err(Refusal::OutOfRange);
         }
@@ -48,6 +48,15 @@ impl TransactionId {
             station: station as u16,
             session: session as u32,
         })
+    }
+}
+
+impl TransactionId {
+    // The same, by name.
+    pub fn read(text: &[u8]) -> Result<TransactionId, Refusal>
+        ensures { ReadsId text.now result }
+    {
+        TransactionId::try_from(text)
     }
 }
 

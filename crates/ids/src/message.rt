@@ -1,7 +1,6 @@
 // Message ids: station, session, number and attempt as `00017-00000003-0000-01`.
-ghost use Rattle.std.specs.Prelude.{◌≡◌, ℕ, List, ◌∷◌, ◌++◌, MatchOption};
-ghost use Rattle.ids.specs.Ids.{Leads, MessageWritten, NoLead, NoMessage};
-ghost use Rattle.decimal.specs.Decimal.{FixedText};
+ghost use Rattle.std.specs.Prelude.{◌≡◌, ℕ, ◌<◌, ◌≤◌, List, ◌∷◌, ◌++◌, MatchOption};
+ghost use Rattle.ids.specs.Ids.{Digits, Leads, MessageWritten, NoDigits, NoLead, NoMessage};
 
 use decimal::fixed_value;
 
@@ -17,41 +16,32 @@ pub struct MessageId {
 // A number at the front of bytes, and what follows the hyphen after it.
 #[derive(Clone, Copy)]
 pub struct Lead<'a> {
-    number: u64,
-    rest: &'a [u8],
+    pub number: u64,
+    pub rest: &'a [u8],
 }
 
-// Five digits and a hyphen.
-fn lead_of_five(text: &[u8]) -> Option<Lead<'_>>
-    ensures { MatchOption result (NoLead 5 text.now) (λ lead. Leads 5 text.now lead.number lead.rest.now) }
+// N digits and a hyphen.
+pub fn take_lead<const N: usize>(text: &[u8]) -> Option<Lead<'_>>
+    requires { (0 < N) × (N ≤ 18) }
+    ensures { MatchOption result (NoLead N text.now) (λ lead. Leads N text.now lead.number lead.rest.now) }
 {
-    let [a, b, c, d, e, b'-', rest @ ..] = text else {
+    let (digits, behind) = text.split_first_chunk::<N>()?;
+    let [b'-', rest @ ..] = behind else {
         return None;
     };
-    let number = fixed_value(&[*a, *b, *c, *d, *e])?;
+    let number = fixed_value(digits)?;
     Some(Lead { number, rest })
 }
 
-// Eight digits and a hyphen.
-fn lead_of_eight(text: &[u8]) -> Option<Lead<'_>>
-    ensures { MatchOption result (NoLead 8 text.now) (λ lead. Leads 8 text.now lead.number lead.rest.now) }
+// N digits and no more.
+pub fn take_last<const N: usize>(text: &[u8]) -> Option<u64>
+    requires { (0 < N) × (N ≤ 18) }
+    ensures { MatchOption result (NoDigits N text.now) (Digits N text.now) }
 {
-    let [a, b, c, d, e, f, g, h, b'-', rest @ ..] = text else {
+    if text.len() != N {
         return None;
-    };
-    let number = fixed_value(&[*a, *b, *c, *d, *e, *f, *g, *h])?;
-    Some(Lead { number, rest })
-}
-
-// Four digits and a hyphen.
-fn lead_of_four(text: &[u8]) -> Option<Lead<'_>>
-    ensures { MatchOption result (NoLead 4 text.now) (λ lead. Leads 4 text.now lead.number lead.rest.now) }
-{
-    let [a, b, c, d, b'-', rest @ ..] = text else {
-        return None;
-    };
-    let number = fixed_value(&[*a, *b, *c, *d])?;
-    Some(Lead { number, rest })
+    }
+    fixed_value(text)
 }
 
 impl MessageId {
@@ -59,18 +49,14 @@ impl MessageId {
     pub fn read(text: &[u8]) -> Option<MessageId>
         ensures { MatchOption result (NoMessage text.now) (MessageWritten text.now) }
     {
-        let station = lead_of_five(text)?;
-        let session = lead_of_eight(station.rest)?;
-        let number = lead_of_four(session.rest)?;
-        if number.rest.len() != 2 {
-            return None;
-        }
-        let attempt = fixed_value(number.rest)?;
+        let station = take_lead::<5>(text)?;
+        let session = take_lead::<8>(station.rest)?;
+        let number = take_lead::<4>(session.rest)?;
         Some(MessageId {
             station: station.number,
             session: session.number,
             number: number.number,
-            attempt,
+            attempt: take_last::<2>(number.rest)?,
         })
     }
 }

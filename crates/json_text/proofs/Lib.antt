@@ -7,5 +7,4 @@ pub mod Stacks
 pub mod Verdicts
 pub mod Unique
 pub mod Skips
-pub mod Lengths
 pub mod Plains

@@ -1,10 +1,15 @@
 -- Bytes that stand for themselves in a string. Assumes nothing.
-use Rattle.std.proofs.Common.{◌≡◌, ℕ, zero, suc, ◌+◌, ◌-◌, ◌≤◌, Bool, true, false, ◌&&◌, List, length, get_or, take, drop, MatchBool, sym, refl, ap, ◌∙◌, subst, ⊎_elim, arith}
+use Rattle.std.proofs.Common.{◌≡◌, ℕ, zero, suc, ◌+◌, ◌-◌, ◌≤◌, Bool, true, false, ◌&&◌, List, [], ◌∷◌, length, get_or, MatchBool, sym, refl, ap, ◌∙◌, subst, ⊎_elim, arith, drop, length-drop, drop-drop}
 use Rattle.json_text.specs.Grammar.{plain}
-use Rattle.json_text.specs.Parts.{PlainTo}
-use Rattle.json_text.proofs.Lengths.{Passed, none_passed, plain_passed}
-use Rattle.std.proofs.lemmas.List.{get_or-drop, take_rest}
+use Rattle.json_text.specs.Parts.{PlainTo, string_length}
+use Rattle.std.proofs.lemmas.List.{get_or-drop}
 use Rattle.std.proofs.lemmas.Bool.{cases_lt, false≢true}
+use Rattle.std.proofs.lemmas.Bool.Decides.{nat_tests}
+
+-- a byte that stands for itself
+string_more : (b : ℕ) (s : List ℕ) → plain b ≡ true → string_length (b ∷ s) ≡ suc (string_length s)
+unfolding string_length
+string_more b s h = grind (arith, nat_tests)
 
 pub none_plain : (s : List ℕ) → PlainTo 0 s
 none_plain s i h = absurd (omega arith)
@@ -20,18 +25,14 @@ more_plain s i n front back j h =
 pub one_plain : (s : List ℕ) (i : ℕ) → PlainTo i s → plain (get_or s i 0) ≡ true → PlainTo (i + 1) s
 one_plain s i front here = more_plain s i 1 front (λ j h. ap plain (get_or-drop i s j 0 ∙ ap (λ k. get_or s k 0) (let e : i + j ≡ i = omega arith in e)) ∙ here)
 
--- what was found of the rest of the bytes
-pub rest_plain : (s : List ℕ) (i n : ℕ) → PlainTo n (take (length s - i) (drop i s)) → PlainTo n (drop i s)
-rest_plain s i n = subst (PlainTo n) (take_rest s i)
-
--- plain bytes are passed
-pub front_passed : (s : List ℕ) (n : ℕ) → n ≤ length s → PlainTo n s → Passed n s
-front_passed s zero h all = none_passed s
-front_passed s (suc n) h all =
-    let b = get_or s n 0 in
-    let here : plain b ≡ true = all n (omega arith) in
-    subst (λ k. Passed k s) (let e : n + 1 ≡ suc n = omega arith in e)
-    (plain_passed s n (omega arith) (λ q. false≢true (sym (ap plain q) ∙ here)) (λ q. false≢true (sym (ap plain q) ∙ here)) (front_passed s n (omega arith) (λ i less. all i (omega arith))))
+-- plain bytes at the front are passed
+pub plain_front : (s : List ℕ) (n : ℕ) → n ≤ length s → PlainTo n s → string_length s ≡ n + string_length (drop n s)
+plain_front s zero h all = omega arith
+plain_front [] (suc n) h all = absurd (omega arith)
+plain_front (b ∷ s) (suc n) h all =
+    let here : plain b ≡ true = all 0 (omega arith) in
+    let rest = plain_front s n (omega arith) (λ i less. all (suc i) (omega arith)) in
+    omega (arith, string_more b s here, rest)
 
 -- one test more
 pub and_plain : (s : List ℕ) (n : ℕ) (p r : Bool) → (p ≡ true → PlainTo n s) → r ≡ plain (get_or s n 0) → (p && r) ≡ true → PlainTo (n + 1) s
@@ -41,3 +42,21 @@ and_plain s n false r front is both = absurd (false≢true both)
 pub when_true : {P : Type 0} (b : Bool) → (b ≡ true → P) → MatchBool b P (Unit {0})
 when_true true p = p refl
 when_true false p = tt
+
+-- what is left of the bytes follows bytes that stand for themselves
+pub record PlainFront (s left : List ℕ) : Type 0 where
+  pub bound : length left ≤ length s
+  pub is : left ≡ drop (length s - length left) s
+  pub plain : PlainTo (length s - length left) s
+
+-- n more are gone
+pub more_gone : (s left rest : List ℕ) (n : ℕ) → PlainFront s left → n ≤ length left → PlainTo n left → rest ≡ drop n left → PlainFront s rest
+more_gone s left rest n front room all is =
+    let i = length s - length left in
+    let long : length rest ≡ length left - n = ap length is ∙ length-drop n left in
+    let e : i + n ≡ length s - length rest = omega (arith, front.bound) in
+    record {
+      bound = omega (arith, front.bound);
+      is = is ∙ ap (drop n) front.is ∙ drop-drop n i s ∙ ap (λ m. drop m s) (let f : i + n ≡ length s - length rest = omega (arith, e) in f);
+      plain = subst (λ m. PlainTo m s) e (more_plain s i n front.plain (subst (PlainTo n) front.is all));
+    }

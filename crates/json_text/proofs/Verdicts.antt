@@ -1,6 +1,6 @@
 -- From the machine's run to what is said of the bytes. Assumes nothing.
-use Rattle.std.proofs.Common.{◌≡◌, ℕ, zero, suc, ◌+◌, ◌-◌, ◌<◌, ◌≤◌, Bool, true, false, ◌⊎◌, List, [], ◌∷◌, length, get_or, take, drop, sym, refl, ap, ◌∙◌, subst, inl, inr, ⊎_elim, arith, take-add}
-use Rattle.std.proofs.lemmas.List.{take_all, take_more, take-take, take-append-drop}
+use Rattle.std.proofs.Common.{◌≡◌, ℕ, zero, suc, ◌+◌, ◌-◌, ◌<◌, ◌≤◌, Bool, true, false, ◌⊎◌, List, [], ◌∷◌, length, get_or, take, drop, sym, refl, ap, ◌∙◌, subst, inl, inr, ⊎_elim, arith, drop-drop, length-drop, take-add}
+use Rattle.std.proofs.lemmas.List.{get_or-drop, take_all, take_more, take-take, take-append-drop}
 use Rattle.std.proofs.lemmas.Bool.{cases_lt, false≢true}
 use Rattle.std.proofs.lemmas.Bool.Decides.{nat_tests}
 use Rattle.json_text.specs.Beginnings.{Deep, IsJson, TooDeepAt, deepest}
@@ -72,15 +72,8 @@ is_deep text i h far = (
 pub at_end : (text : List ℕ) (i : ℕ) (s : State) → length text ≤ i → run begin (take i text) ≡ s → run begin text ≡ s
 at_end text i s h e = ap (run begin) (sym (take_all i text h)) ∙ e
 
-pub shallow_more : (text : List ℕ) (i : ℕ) → ShallowTo text i → Shallow (run begin (take (i + 1) text)) → ShallowTo text (i + 1)
-shallow_more text i before here n h =
-    ⊎_elim
-    (λ past. subst (λ k. Shallow (run begin (take k text))) (let e : i + 1 ≡ n = omega arith in e) here)
-    (λ within. before n within)
-    (cases_lt i n)
-
-pub shallow_scanner : (s : Scanner) → s.depth ≤ 8 → Shallow (state_of s)
-shallow_scanner s h = omega (arith, length_stack s.containers s.depth)
+pub shallow_scanner : (s : Scanner) → Shallow (state_of s)
+shallow_scanner s = omega (arith, s.shallow, length_stack s.containers.items)
 
 -- the byte at i was refused
 pub stopped : (text : List ℕ) (i b : ℕ) (why : Refusal) (s : State) → i < length text → run begin (take i text) ≡ s → b ≡ get_or text i 0 → ShallowTo text i → ((why ≡ NotJson) × (step s b ≡ dead)) ⊎ ((why ≡ TooDeep) × TooFar (step s b)) → ((why ≡ TooDeep) × Deep text) ⊎ ((why ≡ NotJson) × (IsJson text → ⊥) × (Deep text → ⊥))
@@ -143,8 +136,69 @@ string_passes name k xs n small h all quote =
     }
 
 -- no byte is passed
-pub none_passes : (s : Scanner) (xs : List ℕ) → s.depth ≤ 8 → Passes (state_of s) 0 xs (state_of s)
-none_passes s xs small = record {
+pub none_passes : (s : Scanner) (xs : List ℕ) → Passes (state_of s) 0 xs (state_of s)
+none_passes s xs = record {
   runs = refl;
-  shallow = λ m h. subst (λ j. Shallow (run (state_of s) (take j xs))) (let z : 0 ≡ m = omega arith in z) (shallow_scanner s small);
+  shallow = λ m h. subst (λ j. Shallow (run (state_of s) (take j xs))) (let z : 0 ≡ m = omega arith in z) (shallow_scanner s);
 }
+
+-- the machine is in this state where these bytes are left of the text, and has not gone too deep
+pub record Reached (text left : List ℕ) (s : State) : Type 0 where
+  pub bound : length left ≤ length text
+  pub is : left ≡ drop (length text - length left) text
+  pub runs : run begin (take (length text - length left) text) ≡ s
+  pub shallow : ShallowTo text (length text - length left)
+
+pub none_read : (text : List ℕ) → Reached text text begin
+none_read text =
+    let e : 0 ≡ length text - length text = omega arith in
+    record {
+      bound = omega arith;
+      is = ap (λ n. drop n text) e;
+      runs = sym (ap (λ n. run begin (take n text)) e);
+      shallow = λ n h. subst (λ k. Shallow (run begin (take k text))) (let z : 0 ≡ n = omega (arith, e) in z) (omega arith);
+    }
+
+-- n bytes more
+pub reached_on : (text left : List ℕ) (s to : State) (n : ℕ) (after : List ℕ) → Reached text left s → Passes s n left to → n ≤ length left → after ≡ drop n left → Reached text after to
+reached_on text left s to n after r p room is =
+    let i = length text - length left in
+    let long : length after ≡ length left - n = ap length is ∙ length-drop n left in
+    let e : i + n ≡ length text - length after = omega (arith, r.bound) in
+    record {
+      bound = omega (arith, r.bound);
+      is = is ∙ ap (drop n) r.is ∙ drop-drop n i text ∙ ap (λ m. drop m text) e;
+      runs = subst (λ m. run begin (take m text) ≡ to) e (run_on text i n s to r.runs (subst (λ l. run s (take n l) ≡ to) r.is p.runs));
+      shallow = subst (ShallowTo text) e (shallow_on text i n s r.runs r.shallow (λ m h. subst (λ l. Shallow (run s (take m l))) r.is (p.shallow m h)));
+    }
+
+-- the state that was reached is shallow
+reached_shallow : (text left : List ℕ) (s : State) → Reached text left s → Shallow s
+reached_shallow text left s r = subst Shallow r.runs (r.shallow (length text - length left) (omega arith))
+
+one_pass : (s to : State) (b : ℕ) (rest : List ℕ) → to ≡ step s b → Shallow s → Shallow to → Passes s 1 (b ∷ rest) to
+one_pass s to b rest e from on = record {
+  runs = sym e;
+  shallow = λ m h. ⊎_elim
+      (λ one. subst (λ k. Shallow (run s (take k (b ∷ rest)))) (let z : 1 ≡ m = omega arith in z) (subst Shallow e on))
+      (λ none. subst (λ k. Shallow (run s (take k (b ∷ rest)))) (let z : 0 ≡ m = omega arith in z) from)
+      (cases_lt 0 m);
+}
+
+-- one byte more
+pub reached_step : (text left : List ℕ) (s to : State) → Reached text left s → 0 < length left → to ≡ step s (get_or left 0 0) → Shallow to → Reached text (drop 1 left) to
+reached_step text [] s to r some e h = absurd (omega arith)
+reached_step text (b ∷ rest) s to r some e h = reached_on text (b ∷ rest) s to 1 rest r (one_pass s to b rest e (reached_shallow text (b ∷ rest) s r) h) (omega arith) refl
+
+-- the next byte was refused
+pub stopped_at : (text left : List ℕ) (why : Refusal) (s : State) → Reached text left s → 0 < length left → ((why ≡ NotJson) × (step s (get_or left 0 0) ≡ dead)) ⊎ ((why ≡ TooDeep) × TooFar (step s (get_or left 0 0))) → ((why ≡ TooDeep) × Deep text) ⊎ ((why ≡ NotJson) × (IsJson text → ⊥) × (Deep text → ⊥))
+stopped_at text left why s r some told =
+    let i = length text - length left in
+    let read : get_or left 0 0 ≡ get_or text i 0 = ap (λ l. get_or l 0 0) r.is ∙ get_or-drop i text 0 0 ∙ ap (λ k. get_or text k 0) (let z : i + 0 ≡ i = omega arith in z) in
+    stopped text i (get_or left 0 0) why s (omega (arith, r.bound)) r.runs read r.shallow told
+
+-- the whole text was read
+pub all_read : (text left : List ℕ) (s : State) → Reached text left s → length left < 1 → (run begin text ≡ s) × (Deep text → ⊥)
+all_read text left s r none =
+    let i = length text - length left in
+    (at_end text i s (omega (arith, r.bound)) r.runs, not_deep text i r.shallow (inl (omega (arith, r.bound))))

@@ -1,5 +1,5 @@
 -- What the scanner's values mean to the machine. Assumes nothing.
-use Rattle.std.specs.Prelude.{◌≡◌, ℕ, zero, suc, Bool, List, [], ◌∷◌, Some, None, Option, slice_index_or}
+use Rattle.std.specs.Prelude.{◌≡◌, Bool, List, [], ◌∷◌, Some, None, Option}
 use Rattle.json_text.specs.Machine.{Kind, State}
 use Rattle.json_text.specs.Machine.{Mode as MachineMode}
 use Rattle.json_text.specs.Machine.Kind.{arr, obj}
@@ -10,7 +10,7 @@ use Rattle.json_text.specs.declared.mode.Container.TheVariants.{Array, Object}
 use Rattle.json_text.specs.declared.mode.Mode.{Mode}
 use Rattle.json_text.specs.declared.mode.Mode.TheVariants.{Value, First, Name, Opened, Colon, After, Text, Figure, Word}
 use Rattle.json_text.specs.declared.mode.Move.{Move}
-use Rattle.json_text.specs.declared.mode.Move.TheVariants.{To, Open, Close, Fail}
+use Rattle.json_text.specs.declared.mode.Move.TheVariants.{To, Open, Close}
 use Rattle.json_text.specs.declared.mode.NumberPart.{NumberPart}
 use Rattle.json_text.specs.declared.mode.NumberPart.TheVariants.{Minus, Zero, Whole, Point, Places, Power, Sign, Scale}
 use Rattle.json_text.specs.declared.mode.StringPart.{StringPart}
@@ -77,22 +77,26 @@ abbrev pub opened_in : Container → List Kind → State
 opened_in Array k = live first (arr ∷ k)
 opened_in Object k = live opened (obj ∷ k)
 
--- the state that a move leads to
-abbrev pub moved : Move → List Kind → State
-moved (To m) k = live (mode_of m) k
-moved (Open c) k = opened_in c k
-moved Close k = live after (outer k)
-moved Fail k = dead
+-- the state that a move leads to, or none
+abbrev pub moved : Option Move → List Kind → State
+moved None k = dead
+moved (Some (To m)) k = live (mode_of m) k
+moved (Some (Open c)) k = opened_in c k
+moved (Some Close) k = live after (outer k)
 
 -- the move is right, whatever is open
-abbrev pub Right : Move → (List Kind → State) → Type 0
+abbrev pub Right : Option Move → (List Kind → State) → Type 0
 Right r to = (k : List Kind) → moved r k ≡ to k
 
 -- the move is right where this container is the innermost
-abbrev pub RightIn : Option Container → Move → (List Kind → State) → Type 0
+abbrev pub RightIn : Option Container → Option Move → (List Kind → State) → Type 0
 RightIn inner r to = (k : List Kind) → top k ≡ inner → moved r k ≡ to k
 
--- what is open, the innermost first: the first d of the containers, from the last back
-abbrev pub stack : List Container → ℕ → List Kind
-stack held zero = []
-stack held (suc d) = kind_of (slice_index_or held d Array) ∷ stack held d
+-- what is open, the innermost first, where these are opened in turn
+abbrev pub stacked : List Kind → List Container → List Kind
+stacked k [] = k
+stacked k (c ∷ cs) = stacked (kind_of c ∷ k) cs
+
+-- what is open, the innermost first, by the containers from the outermost on
+abbrev pub stack : List Container → List Kind
+stack held = stacked [] held

@@ -8,44 +8,36 @@ ghost use Rattle.json_text.specs.Verdict.{Judged, Passes, Stepped, state_of};
 
 use crate::mode::{Container, Mode, Move, NumberPart, StringPart};
 use crate::quoted::{after_string, plain_length};
-use crate::scanner::{DEEPEST, Scanner};
+use crate::scanner::Scanner;
 use crate::structure::next;
+use arrayvec::ArrayVec;
 use refusal::Refusal;
 
 impl Scanner {
     fn new() -> Scanner
-        ensures start { state_of result ≡ begin }
-        ensures shallow { result.depth ≤ 8 }
+        ensures { state_of result ≡ begin }
     {
         Scanner {
             mode: Mode::Value,
-            containers: [Container::Array; 8],
-            depth: 0,
+            containers: ArrayVec::new(),
         }
     }
 
     // The innermost open container.
     fn inner(&self) -> Option<Container>
-        requires { self.now.depth ≤ 8 }
-        ensures { top (stack self.now.containers self.now.depth) ≡ result }
+        ensures { top (stack self.now.containers.items) ≡ result }
     {
-        if self.depth == 0 {
-            return None;
-        }
-        Some(self.containers[self.depth - 1])
+        self.containers.last().copied()
     }
 
     // One container more is open.
     fn push(&mut self, container: Container) -> Result<(), Refusal>
-        requires { self.old.depth ≤ 8 }
-        ensures pushed { Stepped (opened_in container (stack self.old.containers self.old.depth)) result (state_of self.new) }
-        ensures shallow { self.new.depth ≤ 8 }
+        ensures { Stepped (opened_in container (stack self.old.containers.items)) result (state_of self.new) }
     {
-        if self.depth >= DEEPEST {
+        if self.containers.is_full() {
             return Err(Refusal::TooDeep);
         }
-        self.containers[self.depth] = container;
-        self.depth += 1;
+        self.containers.push(container);
         self.mode = match container {
             Container::Array => Mode::First,
             Container::Object => Mode::Opened,
@@ -55,18 +47,16 @@ impl Scanner {
 
     // One byte more.
     fn step(&mut self, byte: u8) -> Result<(), Refusal>
-        requires { self.old.depth ≤ 8 }
-        ensures stepped { Stepped (step (state_of self.old) byte) result (state_of self.new) }
-        ensures shallow { self.new.depth ≤ 8 }
+        ensures { Stepped (step (state_of self.old) byte) result (state_of self.new) }
     {
         match next(self.mode, self.inner(), byte) {
-            Move::To(mode) => self.mode = mode,
-            Move::Open(container) => return self.push(container),
-            Move::Close => {
+            Some(Move::To(mode)) => self.mode = mode,
+            Some(Move::Open(container)) => return self.push(container),
+            Some(Move::Close) => {
                 self.mode = Mode::After;
-                self.depth = self.depth.saturating_sub(1);
+                self.containers.pop();
             }
-            Move::Fail => return Err(Refusal::NotJson),
+            None => return Err(Refusal::NotJson),
         }
         Ok(())
     }
@@ -76,13 +66,10 @@ impl Scanner {
 fn ends_number(part: NumberPart) -> bool
     ensures { result ≡ ending (figure_mode part) }
 {
-    match part {
-        NumberPart::Zero => true,
-        NumberPart::Whole => true,
-        NumberPart::Places => true,
-        NumberPart::Scale => true,
-        _ => false,
-    }
+    matches!(
+        part,
+        NumberPart::Zero | NumberPart::Whole | NumberPart::Places | NumberPart::Scale
+    )
 }
 
 // A value may end here.
@@ -101,7 +88,7 @@ impl Scanner {
     fn is_complete(&self) -> bool
         ensures { result ≡ accepts (state_of self.now) }
     {
-        ends_value(self.mode) && self.depth == 0
+        ends_value(self.mode) && self.containers.is_empty()
     }
 
     // Whether the string in which the next byte stands, and belongs to no escape, is a member's name.
@@ -116,10 +103,8 @@ impl Scanner {
 
     // Passes the bytes of a string that stand for themselves, and its closing quote where that follows; tells how many.
     fn pass_plain(&mut self, rest: &[u8]) -> usize
-        requires { self.old.depth ≤ 8 }
         ensures bound { result ≤ length rest.now }
         ensures passed { Passes (state_of self.old) result rest.now (state_of self.new) }
-        ensures shallow { self.new.depth ≤ 8 }
     {
         let Some(name) = self.in_chars() else {
             return 0;
@@ -139,11 +124,10 @@ pub fn check(text: &[u8]) -> Result<(), Refusal>
     ensures one_tree { OneTree text.now }
 {
     let mut scanner = Scanner::new();
-    let mut i = 0;
-    while i < text.len() {
-        scanner.step(text[i])?;
-        i += 1;
-        i += scanner.pass_plain(&text[i..]);
+    let mut left = text;
+    while let [byte, rest @ ..] = left {
+        scanner.step(*byte)?;
+        left = &rest[scanner.pass_plain(rest)..];
     }
     if scanner.is_complete() {
         Ok(())

@@ -1,8 +1,9 @@
 // What a scanner of JSON waits for, and what a byte does to it.
 
 // An array or an object that is open.
-#[derive(Clone, Copy)]
+#[derive(Clone, Copy, Default)]
 pub enum Container {
+    #[default]
     Array,
     Object,
 }
@@ -70,5 +71,4 @@ pub enum Move {
     To(Mode),
     Open(Container),
     Close,
-    Fail,
 }

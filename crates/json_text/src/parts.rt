@@ -12,19 +12,20 @@ use crate::structure::is_white;
 pub fn skip_white(s: &[u8]) -> &[u8]
     ensures { result.now ≡ skip s.now }
 {
-    for (i, byte) in s.iter().enumerate() {
-        if !is_white(*byte) {
-            return &s[i..];
-        }
+    let mut left = s;
+    while let [byte, rest @ ..] = left
+        && is_white(*byte)
+    {
+        left = rest;
     }
-    &s[0..0]
+    left
 }
 
 // A byte that may follow a value.
 fn may_follow(byte: u8) -> bool
     ensures { result ≡ follow byte }
 {
-    is_white(byte) || byte == b',' || byte == b']' || byte == b'}'
+    is_white(byte) || matches!(byte, b',' | b']' | b'}')
 }
 
 // How long the number or literal at the front is.
@@ -32,12 +33,13 @@ fn scalar_length(s: &[u8]) -> usize
     ensures value { result ≡ scalar_length s.now }
     ensures bound { result ≤ length s.now }
 {
-    for (i, byte) in s.iter().enumerate() {
-        if may_follow(*byte) {
-            return i;
-        }
+    let mut left = s;
+    while let [byte, rest @ ..] = left
+        && !may_follow(*byte)
+    {
+        left = rest;
     }
-    s.len()
+    s.len() - left.len()
 }
 
 // How long the value at the front is.

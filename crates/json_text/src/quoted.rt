@@ -12,28 +12,13 @@ use crate::mode::{Mode, Move, StringPart};
 fn is_hex(byte: u8) -> bool
     ensures { result ≡ hex byte }
 {
-    match byte {
-        b'0'..=b'9' => true,
-        b'A'..=b'F' => true,
-        b'a'..=b'f' => true,
-        _ => false,
-    }
+    byte.is_ascii_hexdigit()
 }
 
 fn is_escapable(byte: u8) -> bool
     ensures { result ≡ escapable byte }
 {
-    match byte {
-        b'"' => true,
-        b'\\' => true,
-        b'/' => true,
-        b'b' => true,
-        b'f' => true,
-        b'n' => true,
-        b'r' => true,
-        b't' => true,
-        _ => false,
-    }
+    matches!(byte, b'"' | b'\\' | b'/' | b'b' | b'f' | b'n' | b'r' | b't')
 }
 
 // A byte that stands for itself in a string.
@@ -67,11 +52,11 @@ fn plain_eights(s: &[u8]) -> usize
     ensures bound { result ≤ length s.now }
     ensures plain { PlainTo result s.now }
 {
-    let mut i = 0;
-    while are_plain(&s[i..]) {
-        i += 8;
+    let mut left = s;
+    while are_plain(left) {
+        left = &left[8..];
     }
-    i
+    s.len() - left.len()
 }
 
 // How many bytes at the front stand for themselves in a string.
@@ -79,27 +64,30 @@ pub fn plain_length(s: &[u8]) -> usize
     ensures bound { result ≤ length s.now }
     ensures plain { PlainTo result s.now }
 {
-    let mut i = plain_eights(s);
-    while i < s.len() && is_plain(s[i]) {
-        i += 1;
+    let mut left = &s[plain_eights(s)..];
+    while let [byte, rest @ ..] = left
+        && is_plain(*byte)
+    {
+        left = rest;
     }
-    i
+    s.len() - left.len()
 }
 
 // How many bytes there are after an opening quote up to the closing one, and with it.
+#[tactic(auto, unfolding(crate::specs::Parts::string_length, crate::specs::Parts::escaped_length))]
 pub fn string_length(s: &[u8]) -> usize
     ensures value { result ≡ string_length s.now }
     ensures bound { result ≤ length s.now }
 {
-    let mut i = plain_length(s);
-    while i < s.len() {
-        match s[i] {
-            b'"' => return i + 1,
-            b'\\' => i += 2,
-            _ => i += 1,
-        }
+    let mut left = &s[plain_length(s)..];
+    loop {
+        left = match left {
+            [] => return s.len(),
+            [b'"', rest @ ..] => return s.len() - rest.len(),
+            [b'\\', _, rest @ ..] => rest,
+            [_, rest @ ..] => rest,
+        };
     }
-    s.len()
 }
 
 // What may come after a string, which is a member's name or not.
@@ -110,45 +98,41 @@ pub fn after_string(name: bool) -> Mode
 }
 
 // A byte of a string, outside its escapes.
-fn in_chars(byte: u8, name: bool) -> Move
+fn in_chars(byte: u8, name: bool) -> Option<Move>
     ensures { Right result (λ k. move (chars name) k byte) }
 {
     if byte == b'"' {
-        Move::To(after_string(name))
+        Some(Move::To(after_string(name)))
     } else if byte == b'\\' {
-        Move::To(Mode::Text(StringPart::Escaped, name))
+        Some(Move::To(Mode::Text(StringPart::Escaped, name)))
     } else if byte < 0x20 {
-        Move::Fail
+        None
     } else {
-        Move::To(Mode::Text(StringPart::Chars, name))
+        Some(Move::To(Mode::Text(StringPart::Chars, name)))
     }
 }
 
 // The byte after a backslash.
-fn in_escape(byte: u8, name: bool) -> Move
+fn in_escape(byte: u8, name: bool) -> Option<Move>
     ensures { Right result (λ k. move (escaped name) k byte) }
 {
     if is_escapable(byte) {
-        Move::To(Mode::Text(StringPart::Chars, name))
+        Some(Move::To(Mode::Text(StringPart::Chars, name)))
     } else if byte == b'u' {
-        Move::To(Mode::Text(StringPart::Hex4, name))
+        Some(Move::To(Mode::Text(StringPart::Hex4, name)))
     } else {
-        Move::Fail
+        None
     }
 }
 
 // A hexadecimal digit.
-fn in_hex(byte: u8, name: bool, next: StringPart) -> Move
+fn in_hex(byte: u8, name: bool, next: StringPart) -> Option<Move>
     ensures { Right result (λ k. (if hex byte then live (text_mode next name) k else dead)) }
 {
-    if is_hex(byte) {
-        Move::To(Mode::Text(next, name))
-    } else {
-        Move::Fail
-    }
+    is_hex(byte).then_some(Move::To(Mode::Text(next, name)))
 }
 
-pub fn in_string(part: StringPart, name: bool, byte: u8) -> Move
+pub fn in_string(part: StringPart, name: bool, byte: u8) -> Option<Move>
     ensures { Right result (λ k. move (text_mode part name) k byte) }
 {
     match part {

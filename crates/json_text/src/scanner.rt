@@ -1,5 +1,9 @@
 // Scans bytes for JSON, one after the other.
+ghost use Rattle.std.specs.Prelude.{◌≤◌};
+ghost use Rattle.arrayvec.specs.ArrayVec.{array_vec_len};
+
 use crate::mode::{Container, Mode};
+use arrayvec::ArrayVec;
 
 // How many arrays and objects may be open at once.
 pub const DEEPEST: usize = 8;
@@ -8,7 +12,7 @@ pub const DEEPEST: usize = 8;
 #[derive(Drop)]
 pub struct Scanner {
     pub mode: Mode,
-    // the first `depth` of these are open, the last of them innermost
-    pub containers: [Container; 8],
-    pub depth: usize,
+    // what is open, the innermost last
+    pub containers: ArrayVec<Container, DEEPEST>,
+    ghost shallow: { array_vec_len containers ≤ 8 },
 }

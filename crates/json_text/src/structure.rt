@@ -14,109 +14,112 @@ use crate::word::in_word;
 pub fn is_white(byte: u8) -> bool
     ensures { result ≡ white byte }
 {
-    byte == b' ' || byte == b'\t' || byte == b'\n' || byte == b'\r'
+    matches!(byte, b' ' | b'\t' | b'\n' | b'\r')
 }
 
 // The byte after a value: white space, a comma, or the end of what is open.
-pub fn after_value(inner: Option<Container>, byte: u8) -> Move
+pub fn after_value(inner: Option<Container>, byte: u8) -> Option<Move>
     ensures { RightIn inner result (λ k. go_on k byte) }
 {
     if is_white(byte) {
-        return Move::To(Mode::After);
+        return Some(Move::To(Mode::After));
     }
     match inner {
-        None => Move::Fail,
+        None => None,
         Some(Container::Array) => match byte {
-            b',' => Move::To(Mode::Value),
-            b']' => Move::Close,
-            _ => Move::Fail,
+            b',' => Some(Move::To(Mode::Value)),
+            b']' => Some(Move::Close),
+            _ => None,
         },
         Some(Container::Object) => match byte {
-            b',' => Move::To(Mode::Name),
-            b'}' => Move::Close,
-            _ => Move::Fail,
+            b',' => Some(Move::To(Mode::Name)),
+            b'}' => Some(Move::Close),
+            _ => None,
         },
     }
 }
 
 // The first byte of a value.
-fn start_value(byte: u8) -> Move
+fn start_value(byte: u8) -> Option<Move>
     ensures { Right result (λ k. start k byte) }
 {
     match byte {
-        b'"' => Move::To(Mode::Text(StringPart::Chars, false)),
-        b'[' => Move::Open(Container::Array),
-        b'{' => Move::Open(Container::Object),
-        b'-' => Move::To(Mode::Figure(NumberPart::Minus)),
-        b'0' => Move::To(Mode::Figure(NumberPart::Zero)),
-        b'1'..=b'9' => Move::To(Mode::Figure(NumberPart::Whole)),
-        b't' => Move::To(Mode::Word(WordRest::Rue)),
-        b'f' => Move::To(Mode::Word(WordRest::Alse)),
-        b'n' => Move::To(Mode::Word(WordRest::Ull)),
-        _ => Move::Fail,
+        b'"' => Some(Move::To(Mode::Text(StringPart::Chars, false))),
+        b'[' => Some(Move::Open(Container::Array)),
+        b'{' => Some(Move::Open(Container::Object)),
+        b'-' => Some(Move::To(Mode::Figure(NumberPart::Minus))),
+        b'0' => Some(Move::To(Mode::Figure(NumberPart::Zero))),
+        b'1'..=b'9' => Some(Move::To(Mode::Figure(NumberPart::Whole))),
+        b't' => Some(Move::To(Mode::Word(WordRest::Rue))),
+        b'f' => Some(Move::To(Mode::Word(WordRest::Alse))),
+        b'n' => Some(Move::To(Mode::Word(WordRest::Ull))),
+        _ => None,
     }
 }
 
-fn in_value(byte: u8) -> Move
+fn in_value(byte: u8) -> Option<Move>
     ensures { Right result (λ k. move value k byte) }
 {
     if is_white(byte) {
-        Move::To(Mode::Value)
+        Some(Move::To(Mode::Value))
     } else {
         start_value(byte)
     }
 }
 
 // The byte after an opening bracket.
-fn in_first(inner: Option<Container>, byte: u8) -> Move
+fn in_first(inner: Option<Container>, byte: u8) -> Option<Move>
     ensures { RightIn inner result (λ k. first_step k byte) }
 {
     match inner {
-        Some(Container::Array) if is_white(byte) => Move::To(Mode::First),
-        Some(Container::Array) if byte == b']' => Move::Close,
+        Some(Container::Array) if is_white(byte) => Some(Move::To(Mode::First)),
+        Some(Container::Array) if byte == b']' => Some(Move::Close),
         Some(Container::Array) => start_value(byte),
-        _ => Move::Fail,
+        _ => None,
     }
 }
 
-fn in_name(byte: u8) -> Move
+fn in_name(byte: u8) -> Option<Move>
     ensures { Right result (λ k. move name k byte) }
 {
     if is_white(byte) {
-        Move::To(Mode::Name)
+        Some(Move::To(Mode::Name))
     } else if byte == b'"' {
-        Move::To(Mode::Text(StringPart::Chars, true))
+        Some(Move::To(Mode::Text(StringPart::Chars, true)))
     } else {
-        Move::Fail
+        None
     }
 }
 
 // The byte after an opening brace.
-fn in_opened(inner: Option<Container>, byte: u8) -> Move
+fn in_opened(inner: Option<Container>, byte: u8) -> Option<Move>
     ensures { RightIn inner result (λ k. opened_step k byte) }
 {
     match inner {
-        Some(Container::Object) if is_white(byte) => Move::To(Mode::Opened),
-        Some(Container::Object) if byte == b'}' => Move::Close,
-        Some(Container::Object) if byte == b'"' => Move::To(Mode::Text(StringPart::Chars, true)),
-        _ => Move::Fail,
+        Some(Container::Object) if is_white(byte) => Some(Move::To(Mode::Opened)),
+        Some(Container::Object) if byte == b'}' => Some(Move::Close),
+        Some(Container::Object) if byte == b'"' => Some(Move::To(Mode::Text(
+            StringPart::Chars,
+            true,
+        ))),
+        _ => None,
     }
 }
 
-fn in_colon(byte: u8) -> Move
+fn in_colon(byte: u8) -> Option<Move>
     ensures { Right result (λ k. move colon k byte) }
 {
     if is_white(byte) {
-        Move::To(Mode::Colon)
+        Some(Move::To(Mode::Colon))
     } else if byte == b':' {
-        Move::To(Mode::Value)
+        Some(Move::To(Mode::Value))
     } else {
-        Move::Fail
+        None
     }
 }
 
 // What a byte does in a mode, with this container the innermost that is open.
-pub fn next(mode: Mode, inner: Option<Container>, byte: u8) -> Move
+pub fn next(mode: Mode, inner: Option<Container>, byte: u8) -> Option<Move>
     ensures { RightIn inner result (λ k. move (mode_of mode) k byte) }
 {
     match mode {

@@ -7,17 +7,13 @@ ghost use Rattle.json_text.specs.Scanning.{Right, mode_of, word_mode};
 use crate::mode::{Mode, Move, WordRest};
 
 // On to this mode where the byte is the one that must come.
-pub fn expect(byte: u8, wanted: u8, mode: Mode) -> Move
+pub fn expect(byte: u8, wanted: u8, mode: Mode) -> Option<Move>
     ensures { Right result (λ k. (if nat_eq byte wanted then live (mode_of mode) k else dead)) }
 {
-    if byte == wanted {
-        Move::To(mode)
-    } else {
-        Move::Fail
-    }
+    (byte == wanted).then_some(Move::To(mode))
 }
 
-pub fn in_word(rest: WordRest, byte: u8) -> Move
+pub fn in_word(rest: WordRest, byte: u8) -> Option<Move>
     ensures { Right result (λ k. move (word_mode rest) k byte) }
 {
     match rest {

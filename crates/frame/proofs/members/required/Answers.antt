@@ -1,4 +1,5 @@
+use Rattle.frame.proofs.Looks.{required_bytes}
 use Rattle.frame.proofs.members.required.Goals as goal
 
-pub returns-in-Once : goal.returns-in-Once
-returns-in-Once c = λ called ms e v. let f = c.in-Once.ensures called ms e v in (f.0, record { tree = f.1.0; is = f.1.1; bytes = f.1.2 })
+pub returns : goal.returns
+returns c = λ called ms e v. required_bytes called ms _ _ c.required.ensures (c.find_member.ensures called ms e v)

@@ -1,7 +1,7 @@
 use Rattle.std.proofs.Common.{codes, sym, refl, subst, arith}
 use Rattle.frame_reader.specs.Fields.{IdFinds}
 use Rattle.frame_reader.specs.Frame.{Must}
-use Rattle.frame_reader.proofs.Fronts.{braced, opened, opens_with, skipped}
+use Rattle.frame.proofs.Fronts.{braced, opened, opens_with, skipped}
 use Rattle.frame_reader.proofs.Onlys.{absent, no_members}
 use Rattle.frame.proofs.Openings.{object_by}
 use Rattle.frame_reader.proofs.info.find_id.Goals as goal
@@ -19,7 +19,7 @@ returns c = record {
   through = λ tree behind b.
       let found = c.in-Some.ensures.found in
       let object = object_by tree (opens_with tree _ behind 123 _ (skipped b) found) in
-      let walk = c.find_member.ensures.through (codes "transactionId") refl object.0 behind (opened tree object.0 _ behind _ (skipped b) object.1 found) in
+      let walk = c.find_inside.ensures.through (codes "transactionId") refl object.0 behind (opened tree object.0 _ behind _ (skipped b) object.1 found) in
       (subst (λ t. IdFinds t c.id_of.result) (sym object.1) (c.id_of.ensures object.0 walk.0), walk.1);
-  bound = omega (arith, c.find_member.ensures.bound, c.in-Some.ensures.shorter);
+  bound = omega (arith, c.find_inside.ensures.bound, c.in-Some.ensures.shorter);
 }

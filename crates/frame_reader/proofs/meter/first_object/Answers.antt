@@ -1,6 +1,6 @@
 use Rattle.std.proofs.Common.{arith}
-use Rattle.frame_reader.proofs.Fronts.{first_cases, inside_begun}
-use Rattle.frame.proofs.Fronts.{shorter_from}
+use Rattle.frame_reader.proofs.Fronts.{first_cases}
+use Rattle.frame.proofs.Fronts.{inside_begun, shorter_from}
 use Rattle.frame_reader.proofs.meter.first_object.Goals as goal
 
 pub returns-in_err-first : goal.returns-in_err-first

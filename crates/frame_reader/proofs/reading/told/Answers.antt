@@ -33,9 +33,9 @@ returns c = λ payload f.
         session = refl;
         number = refl;
         tells = record {
-          kind = f.event_type.is ∙ ap Some (c.in_ok-event_type.ensures f.event_type.tree f.event_type.bytes);
+          kind = f.event_type.is ∙ ap Some (c.in_ok-named.ensures f.event_type.tree f.event_type.bytes);
           time = record { written = time.written; is = f.timestamp.is ∙ ap Some time.is; denotes = time.denotes };
-          reason = f.trigger_reason.is ∙ ap Some (c.in_ok-trigger_reason.ensures f.trigger_reason.tree f.trigger_reason.bytes);
+          reason = f.trigger_reason.is ∙ ap Some (c.in_ok-named-2.ensures f.trigger_reason.tree f.trigger_reason.bytes);
           number = f.seq_no.is ∙ ap Some (n.1 ∙ ap (λ k. jnumber (decimal k)) same);
           offline = c.in_ok-flag.ensures _ (value_if (codes "offline") payload _ f.offline);
           transaction = record {

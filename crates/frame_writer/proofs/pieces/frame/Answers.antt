@@ -19,10 +19,10 @@ opening c =
     omega (arith, ap length c.new-draft.ensures, pushed_length chain (omega (arith, ap length c.new-draft.ensures)))
 
 pub push_event-requires : goal.push_event-requires
-push_event-requires c = (omega (arith, opening (goal.at.push_event-requires c).After-push_text-2), c.requires)
+push_event-requires c = omega (arith, opening (goal.at.push_event-requires c).After-push_text-2)
 
 pub push_register-requires : goal.push_register-requires
-push_register-requires c = (omega (arith, opening (goal.at.push_register-requires c).After-push_text-2), c.requires)
+push_register-requires c = omega (arith, opening (goal.at.push_register-requires c).After-push_text-2)
 
 pub returns : goal.returns
 returns c =

@@ -1,37 +1,37 @@
-use Rattle.std.proofs.Common.{◌≡◌, ◌+◌, length, get_or, take, sym, refl, ap, ◌∙◌, subst, inl, inr, arith, length-drop}
-use Rattle.json_text.specs.Machine.{accepts, begin, run, step}
-use Rattle.json_text.specs.Verdict.{Passes, Shallow, state_of}
+use Rattle.std.proofs.Common.{drop, sym, refl, ap, ◌∙◌, subst, inr, arith}
+use Rattle.json_text.specs.Machine.{accepts}
+use Rattle.json_text.specs.Verdict.{state_of}
 use Rattle.json_text.proofs.Unique.{one_tree}
-use Rattle.json_text.proofs.Verdicts.{at_end, is_json, not_deep, not_json, run_more, run_on, shallow_more, shallow_on, shallow_scanner, stopped}
+use Rattle.json_text.proofs.Verdicts.{Reached, all_read, is_json, none_read, not_json, reached_on, reached_step, shallow_scanner, stopped_at}
 use Rattle.json_text.proofs.judge.check.Goals as goal
 use Rattle.std.proofs.lemmas.List.{take_rest}
 use Rattle.std.proofs.lemmas.Result.{err_from_is_err_and}
 
+pub loop-left-init : goal.loop-left-init
+loop-left-init c = subst (Reached c.args.text.now c.args.text.now) (sym c.new-scanner.ensures) (none_read c.args.text.now)
+
 pub returns-in_err-step : goal.returns-in_err-step
 returns-in_err-step c =
     let p = err_from_is_err_and c.from_residual.result c.from_residual.ensures.1 in
-    record { judged = rw (p.1, p.2) (stopped c.args.text.now c.loop-i.i _ _ (state_of c.loop-i.scanner) c.loop-i-test.true c.loop-i.invariant.0 refl c.loop-i.invariant.2 c.in_err-step.ensures.stepped); one_tree = one_tree c.args.text.now }
+    record { judged = rw (p.1, p.2) (stopped_at c.args.text.now c.loop-left.left.now _ (state_of c.loop-left.scanner) c.loop-left.invariant (omega arith) c.in_err-step.ensures); one_tree = one_tree c.args.text.now }
 
-pub loop-i-preserved : goal.loop-i-preserved
-loop-i-preserved c =
+pub loop-left-preserved : goal.loop-left-preserved
+loop-left-preserved c =
     let text = c.args.text.now in
-    let i = c.loop-i.i in
-    let told = c.in_ok-step.ensures in
+    let left = c.loop-left.left.now in
     let stepped = state_of c.step.new.self in
-    let here : run begin (take (i + 1) text) ≡ stepped = run_more text i c.loop-i-test.true ∙ ap (λ s. step s (get_or text i 0)) c.loop-i.invariant.0 ∙ sym told.stepped in
-    let shallow = shallow_more text i c.loop-i.invariant.2 (subst Shallow (sym here) (shallow_scanner c.step.new.self told.shallow)) in
-    let on = c.pass_plain-i.ensures in
-    let passes = subst (λ l. Passes stepped c.pass_plain-i.result l (state_of c.pass_plain-i.new.self)) (take_rest text (i + 1)) on.passed in
-    (run_on text (i + 1) _ stepped _ here passes.runs, on.shallow, shallow_on text (i + 1) _ stepped here shallow passes.shallow, omega (arith, on.bound, ap length (take_rest text (i + 1)), length-drop (i + 1) text))
+    let here = reached_step text left (state_of c.loop-left.scanner) stepped c.loop-left.invariant (omega arith) c.in_ok-step.ensures (shallow_scanner c.step.new.self) in
+    rw (take_rest left 1) (rw (take_rest (drop 1 left) c.pass_plain.result)
+    (reached_on text (drop 1 left) stepped (state_of c.pass_plain.new.self) c.pass_plain.result (drop c.pass_plain.result (drop 1 left)) here (rw (take_rest left 1) at c.pass_plain.ensures.passed) (rw (take_rest left 1) at c.pass_plain.ensures.bound) refl))
 
 pub returns-then-is_complete : goal.returns-then-is_complete
 returns-then-is_complete c =
     let text = c.args.text.now in
-    let all = at_end text c.loop-i.i (state_of c.loop-i.scanner) c.loop-i-test.false c.loop-i.invariant.0 in
-    record { judged = (is_json text (ap accepts all ∙ sym c.if-is_complete.ensures), not_deep text c.loop-i.i c.loop-i.invariant.2 (inl c.loop-i-test.false)); one_tree = one_tree text }
+    let all = all_read text c.loop-left.left.now (state_of c.loop-left.scanner) c.loop-left.invariant (omega arith) in
+    record { judged = (is_json text (ap accepts all.0 ∙ sym c.if-is_complete.ensures), all.1); one_tree = one_tree text }
 
 pub returns-else-is_complete : goal.returns-else-is_complete
 returns-else-is_complete c =
     let text = c.args.text.now in
-    let all = at_end text c.loop-i.i (state_of c.loop-i.scanner) c.loop-i-test.false c.loop-i.invariant.0 in
-    record { judged = inr (refl, not_json text (ap accepts all ∙ sym c.if-is_complete.ensures), not_deep text c.loop-i.i c.loop-i.invariant.2 (inl c.loop-i-test.false)); one_tree = one_tree text }
+    let all = all_read text c.loop-left.left.now (state_of c.loop-left.scanner) c.loop-left.invariant (omega arith) in
+    record { judged = inr (refl, not_json text (ap accepts all.0 ∙ sym c.if-is_complete.ensures), all.1); one_tree = one_tree text }

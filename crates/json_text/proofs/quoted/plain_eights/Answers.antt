@@ -1,11 +1,6 @@
-use Rattle.std.proofs.Common.{length, ap, arith, length-drop}
-use Rattle.json_text.proofs.Plains.{more_plain, rest_plain}
+use Rattle.json_text.proofs.Plains.{more_gone}
 use Rattle.json_text.proofs.quoted.plain_eights.Goals as goal
 use Rattle.std.proofs.lemmas.List.{take_rest}
 
-pub loop-i-preserved : goal.loop-i-preserved
-loop-i-preserved c =
-    let s = c.args.s.now in
-    let i = c.loop-i.i in
-    let told = c.loop-i-test.ensures in
-    (more_plain s i 8 c.loop-i.invariant.0 (rest_plain s i 8 told.1), omega (arith, told.0, ap length (take_rest s i), length-drop i s))
+pub loop-left-preserved : goal.loop-left-preserved
+loop-left-preserved c = more_gone c.args.s.now c.loop-left.left.now _ 8 c.loop-left.invariant c.loop-left-test.ensures.0 c.loop-left-test.ensures.1 (take_rest c.loop-left.left.now 8)

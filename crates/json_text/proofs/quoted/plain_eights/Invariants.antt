@@ -1,9 +1,9 @@
-use Rattle.std.proofs.Common.{◌-◌, ◌≤◌, length}
-use Rattle.json_text.specs.Parts.{PlainTo}
+use Rattle.std.proofs.Common.{length}
+use Rattle.json_text.proofs.Plains.{PlainFront}
 use Rattle.json_text.proofs.quoted.plain_eights.Given as goal
 
-abbrev pub invariant-loop-i : goal.invariant-loop-i
-invariant-loop-i l = PlainTo l.i l.s × (l.i ≤ length l.s)
+abbrev pub invariant-loop-left : goal.invariant-loop-left
+invariant-loop-left l = PlainFront l.s l.left
 
-abbrev pub decreases-loop-i : goal.decreases-loop-i
-decreases-loop-i l = length l.s - l.i
+abbrev pub decreases-loop-left : goal.decreases-loop-left
+decreases-loop-left l = length l.left

@@ -3,8 +3,8 @@ use Rattle.frame_reader.specs.Fields.{IdFinds}
 use Rattle.frame_reader.specs.Frame.{Must}
 use Rattle.frame_reader.specs.Members.{chain}
 use Rattle.frame.specs.Members.{members_of}
-use Rattle.frame_reader.specs.Slots.{Bytes}
-use Rattle.frame_reader.proofs.Looks.{is_optional, is_required}
+use Rattle.frame.specs.Slots.{Bytes}
+use Rattle.frame.proofs.Looks.{is_optional, is_required}
 use Rattle.frame_reader.proofs.Onlys.{to_under, to_under_if}
 use Rattle.frame_reader.proofs.fields.Fields.find.Goals as goal
 

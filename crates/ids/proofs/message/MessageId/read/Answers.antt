@@ -14,15 +14,10 @@ returns-in_err-number c =
     rw c.from_residual-in_err-number.ensures
     (λ id m. c.in_err-number.ensures _ _ (number_leads _ id m _ _ _ _ c.in_ok-station.ensures c.in_ok-session.ensures))
 
-pub returns-then-number-ne2 : goal.returns-then-number-ne2
-returns-then-number-ne2 c = λ id m.
-    c.if-number-ne2.true (attempt_last _ id m _ _ _ _ _ _ c.in_ok-station.ensures c.in_ok-session.ensures c.in_ok-number.ensures).0
-
-pub returns-in_err-attempt : goal.returns-in_err-attempt
-returns-in_err-attempt c =
-    rw c.from_residual-in_err-attempt.ensures
-    (λ id m. c.in_err-attempt.ensures id.attempt (attempt_last _ id m _ _ _ _ _ _ c.in_ok-station.ensures c.in_ok-session.ensures c.in_ok-number.ensures).1)
+pub returns-in_err-take_last : goal.returns-in_err-take_last
+returns-in_err-take_last c =
+    rw c.from_residual-in_err-take_last.ensures
+    (λ id m. c.in_err-take_last.ensures id.attempt (attempt_last _ id m _ _ _ _ _ _ c.in_ok-station.ensures c.in_ok-session.ensures c.in_ok-number.ensures))
 
 pub returns : goal.returns
-returns c =
-    whole_message _ _ _ _ _ _ _ _ c.in_ok-station.ensures c.in_ok-session.ensures c.in_ok-number.ensures c.if-number-ne2.false c.in_ok-attempt.ensures
+returns c = whole_message _ _ _ _ _ _ _ _ c.in_ok-station.ensures c.in_ok-session.ensures c.in_ok-number.ensures c.in_ok-take_last.ensures

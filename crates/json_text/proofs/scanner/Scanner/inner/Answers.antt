@@ -1,6 +1,8 @@
-use Rattle.std.proofs.Common.{arith}
+use Rattle.std.proofs.Common.{◌-◌, length, slice_get, sym, ap, ◌∙◌}
 use Rattle.json_text.proofs.Stacks.{top_stack}
 use Rattle.json_text.proofs.scanner.Scanner.inner.Goals as goal
 
 pub returns : goal.returns
-returns c = top_stack c.args.self.now.containers c.args.self.now.depth (omega arith)
+returns c =
+    top_stack c.args.self.now.containers.items
+    ∙ ap (λ xs. slice_get xs (length xs - 1)) (sym c.deref.ensures.0) ∙ sym c.last.ensures.value ∙ sym c.copied.ensures

@@ -1,18 +1,11 @@
-use Rattle.std.proofs.Common.{ap, ◌∙◌, arith}
+use Rattle.std.proofs.Common.{Some, sym, ap, ◌∙◌}
 use Rattle.json_text.specs.Machine.Mode.{after}
 use Rattle.json_text.specs.Machine.State.{live}
-use Rattle.json_text.specs.Scanning.{stack}
+use Rattle.json_text.specs.Scanning.{moved, stack}
 use Rattle.json_text.proofs.Stacks.{stack_pop}
 use Rattle.json_text.proofs.scanner.Scanner.step.Goals as goal
 
-pub returns-in-Close : goal.returns-in-Close
-returns-in-Close c =
-    let xs = c.args.self.now.containers in
-    let d = c.args.self.now.depth in
-    record {
-      stepped =
-          ap (λ n. live after (stack xs n)) c.saturating_sub-self.ensures
-          ∙ ap (live after) (stack_pop xs d)
-          ∙ c.in-Close.ensures (stack xs d) c.inner.ensures;
-      shallow = omega arith;
-    }
+pub returns-in-Some-Close : goal.returns-in-Some-Close
+returns-in-Some-Close c =
+    let xs = c.args.self.now.containers.items in
+    ap (λ ys. live after (stack ys)) c.pop.ensures.rest ∙ ap (live after) (stack_pop xs) ∙ ap (λ m. moved (Some m) (stack xs)) (sym c.in-Some-Close.field-0-is) ∙ c.in-Some-Close.ensures (stack xs) c.inner.ensures
