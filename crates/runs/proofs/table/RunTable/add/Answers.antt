@@ -22,7 +22,7 @@ apart c =
 pub returns-then-self-eq-MOST_RUNS : goal.returns-then-self-eq-MOST_RUNS
 returns-then-self-eq-MOST_RUNS c =
     let at = (goal.at.returns-then-self-eq-MOST_RUNS c).Joined-else-place-self in
-    (refl, too_many _ _ _ (omega arith) _ c.if-self-eq-MOST_RUNS.true c.args.self.now.rising (apart at))
+    (refl, refl, too_many _ _ _ (omega arith) _ c.if-self-eq-MOST_RUNS.true c.args.self.now.rising (apart at))
 
 pub open_at-requires : goal.open_at-requires
 open_at-requires c = (omega arith, apart (goal.at.open_at-requires c).Joined-else-place-self)
