@@ -5,6 +5,7 @@ use Rattle.statement.specs.Parts.{rows_text}
 use Rattle.statement.proofs.rows.rows_size.Given as goal
 
 abbrev pub invariant-loop-place : goal.invariant-loop-place
-invariant-loop-place l =
-    (l.size ≡ length (rows_text (events_in l.ledger) l.price l.part (take l.place (sessions (events_in l.ledger)))))
-    × (l.size ≤ 1024 * l.place)
+invariant-loop-place l = record {
+  size : l.size ≡ length (rows_text (events_in l.ledger) l.price.thousandths l.part (take l.place (sessions (events_in l.ledger))));
+  bound : l.size ≤ 1024 * l.place;
+}
