@@ -81,15 +81,6 @@ module _ (mem : List Run) (c n : ℕ) (fits : c ≤ length mem) where
   at_place : (p : ℕ) (d : Run) → p < c → get_or (take c mem) p d ≡ get_or mem p some_run
   at_place p d h = get_or-take c mem p d h ∙ get_or_default mem p d some_run (omega arith)
 
-  pub touches_found : (p : ℕ) → Place (take c mem) n p → p < c → leb (suc (suc n)) (get_or mem p some_run).first ≡ false → Touches (take c mem) n p
-  touches_found p at h near =
-      record {
-        clear = at.clear;
-        inside = omega (arith, used);
-        begins = λ d. subst (λ r. r.first ≤ suc n) (sym (at_place p d h)) (omega (arith, leb-false _ _ near));
-        ends = λ d. at.here d (omega (arith, used));
-      }
-
   pub between_found : (p : ℕ) → Place (take c mem) n p → (p < c → leb (suc (suc n)) (get_or mem p some_run).first ≡ true) → Between (take c mem) n p
   between_found p at far =
       record {
@@ -124,16 +115,6 @@ module _ (rs : List Run) (rising : ascending 0 rs ≡ true) where
 
   pub next_above : (i : ℕ) (d : Run) → i + 1 < length rs → (get_or rs i d).last + 2 ≤ (get_or rs (i + 1) d).first
   next_above i d h = let here : suc i ≡ i + 1 = omega arith in subst (λ k. (get_or rs i d).last + 2 ≤ (get_or rs k d).first) here (rising_next 0 rs i d order (omega arith))
-
-  -- the gap in front of the first run, where there is one
-  gaps_first : (d : Run) → 0 < length rs → gaps_from 0 (take 1 rs) ≡ gap 0 (get_or rs 0 d).first
-  gaps_first d h = ap (gaps_from 0) (take_more rs 0 d h) ∙ append-nil (gap 0 (get_or rs 0 d).first)
-
-  first_gap : (gaps : List Run) (d : Run) → 0 < length rs → gaps ≡ [] → 0 < (get_or rs 0 d).first → gaps ++ record { first = 0; last = (get_or rs 0 d).first - 1 } ∷ [] ≡ gaps_from 0 (take 1 rs)
-  first_gap gaps d h none lt = ap (λ l. l ++ record { first = 0; last = (get_or rs 0 d).first - 1 } ∷ []) none ∙ sym (gaps_first d h ∙ cond-true _ _ _ (lt-ltb 0 (get_or rs 0 d).first lt))
-
-  no_first_gap : (gaps : List Run) (d : Run) → 0 < length rs → gaps ≡ [] → (get_or rs 0 d).first ≤ 0 → gaps ≡ gaps_from 0 (take 1 rs)
-  no_first_gap gaps d h none le = none ∙ sym (gaps_first d h ∙ cond-false _ _ _ (le-ltb 0 (get_or rs 0 d).first le))
 
   -- the gaps so far, with the one in front of the next run
   pub gaps_next : (gaps : List Run) (i : ℕ) (d : Run) → i + 1 < length rs → gaps ≡ gaps_from 0 (take (i + 1) rs) → gaps ++ record { first = suc (get_or rs i d).last; last = (get_or rs (i + 1) d).first - 1 } ∷ [] ≡ gaps_from 0 (take (i + 1 + 1) rs)
@@ -173,15 +154,6 @@ module _ (table : RunTable) (rs : List Run) (all : rs ≡ runs_in table) where
 
   pub rise : ascending 0 rs ≡ true
   rise = rw all table.rising
-
-  pub first_is : (d : Run) → 0 < length rs → get_or rs 0 d ≡ get_or (runs_in table) 0 some_run
-  first_is d h = get_or_default rs 0 d some_run h ∙ ap (λ l. get_or l 0 some_run) all
-
-  pub first_found : (gaps : List Run) → 0 < length rs → gaps ≡ [] → 0 < (get_or rs 0 some_run).first → gaps ++ record { first = 0; last = (get_or rs 0 some_run).first - 1 } ∷ [] ≡ gaps_from 0 (take 1 (runs_in table))
-  first_found gaps h none lt = first_gap rs rise gaps some_run h none lt ∙ ap (λ l. gaps_from 0 (take 1 l)) all
-
-  pub no_first_found : (gaps : List Run) → 0 < length rs → gaps ≡ [] → (get_or rs 0 some_run).first ≤ 0 → gaps ≡ gaps_from 0 (take 1 (runs_in table))
-  no_first_found gaps h none le = no_first_gap rs rise gaps some_run h none le ∙ ap (λ l. gaps_from 0 (take 1 l)) all
 
   -- those after the first
   pub later_length : length (take (length rs - 1) (drop 1 rs)) ≡ length (runs_in table) - 1

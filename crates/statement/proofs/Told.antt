@@ -3,8 +3,9 @@ use Rattle.std.proofs.Common.{◌≡◌, ℕ, zero, suc, ◌+◌, ◌<◌, ◌�
 use Rattle.std.proofs.lemmas.List.Filters.{length-filter_both}
 use Rattle.std.proofs.lemmas.List.{append_assoc, flat_map_more, length-append, take_all, take_more}
 use Rattle.std.proofs.lemmas.Bool.{cases_Bool, cond-false, cond-true}
-use Rattle.std.specs.List.{flat_map, range_with_len}
+use Rattle.std.specs.List.{flat_map, range_with_len, sum_by}
 use Rattle.std.specs.Option.{option_map_or}
+use Rattle.std.proofs.lemmas.List.Sums.{sum_by-cons}
 use Rattle.std.proofs.lemmas.Option.{slice_get-get_or, slice_get_past}
 use Rattle.draft.proofs.Chains.{whole}
 use Rattle.event.specs.declared.events.Event.{Event}
@@ -112,6 +113,17 @@ count_from p (s ∷ ss) a q same =
 
 pub places_billed : (events : List Event) → length (filter (billed_at events) (range_with_len 0 (length (sessions events)))) ≡ length (filter (billed events) (sessions events))
 places_billed events = count_from (billed events) (sessions events) 0 (billed_at events) (λ k. ap (billed_at events) (omega arith))
+
+-- the places' lines are as long as the sessions'
+size_from : (f : TransactionId → List ℕ) (ss : List TransactionId) (a : ℕ) (q : ℕ → List ℕ) → ((k : ℕ) → q (a + k) ≡ option_map_or f (slice_get ss k) []) → sum_by (λ k. length (q k)) (range_with_len a (length ss)) ≡ length (flat_map f ss)
+size_from f [] a q same = refl
+size_from f (s ∷ ss) a q same =
+    let rest = size_from f ss (a + 1) q (λ k. ap q (omega arith) ∙ same (suc k)) in
+    let here : q a ≡ f s = ap q (omega arith) ∙ same 0 in
+    sum_by-cons (λ k. length (q k)) a (range_with_len (a + 1) (length ss)) ∙ omega (arith, rest, ap length here, length-append (f s) (flat_map f ss))
+
+pub places_size : (events : List Event) (price : ℕ) (part : Part) → sum_by (λ k. length (text_at events price part k)) (range_with_len 0 (length (sessions events))) ≡ length (part_lines events price part)
+places_size events price part = size_from (part_text events price part) (sessions events) 0 (text_at events price part) (λ k. ap (text_at events price part) (omega arith))
 
 -- the lines of a part are those of its sessions
 module _ (events : List Event) (price : ℕ) where

@@ -96,11 +96,9 @@ pub(crate) fn rows_size(ledger: &Ledger<'_>, price: Price, part: Part) -> usize
     ensures size { result ≡ length (part_lines (events_in ledger.now) price.thousandths part) }
     ensures bound { result ≤ 1024 * 1024 }
 {
-    let mut size = 0;
-    for place in 0..ledger.len() {
-        size += row_line(ledger, place, price, part).len();
-    }
-    size
+    (0..ledger.len())
+        .map(|place| row_line(ledger, place, price, part).len())
+        .sum()
 }
 
 // Writes the lines of the part to the beginning of the buffer, which has room for them; says where they end.

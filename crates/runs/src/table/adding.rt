@@ -30,7 +30,8 @@ impl RunTable {
 
     // Opens a run at the place; those from there on move up.
     fn open_at(&mut self, place: usize, number: u16)
-        requires { (self.old.count < 16) × (Between (runs_in self.old) number place) }
+        requires room { self.old.count < 16 }
+        requires apart { Between (runs_in self.old) number place }
         ensures { Stretches (with_number (covers (runs_in self.old)) number) (runs_in self.new) }
     {
         let end = self.count + 1;
@@ -73,7 +74,8 @@ impl RunTable {
 
     // One run more, above all others.
     pub(super) fn push(&mut self, run: Run)
-        requires { (self.old.count < 16) × (ascending 0 (runs_in self.old ++ run ∷ []) ≡ true) }
+        requires room { self.old.count < 16 }
+        requires rising { ascending 0 (runs_in self.old ++ run ∷ []) ≡ true }
         ensures { runs_in self.new ≡ runs_in self.old ++ run ∷ [] }
     {
         self.runs[self.count] = run;

@@ -1,13 +1,10 @@
 use Rattle.std.proofs.Common.{sym, subst, arith}
-use Rattle.runs.proofs.Tables.{all_total, few, in_order, more_total, rise, some_run}
+use Rattle.runs.proofs.Tables.{all_total, in_order, more_total, rise, some_run}
 use Rattle.runs.specs.Stretches.{Counts}
 use Rattle.runs.proofs.table.RunTable.size.Goals as goal
 
 pub size-numbers-requires : goal.size-numbers-requires
 size-numbers-requires c = in_order _ (rise c.args.self.now _ c.as_slice-run-items.ensures) _ some_run c.loop-run-test.true
-
-pub overflow_add-numbers : goal.overflow_add-numbers
-overflow_add-numbers c = omega (arith, few c.args.self.now _ c.as_slice-run-items.ensures)
 
 pub loop-run-preserved : goal.loop-run-preserved
 loop-run-preserved c = record {
