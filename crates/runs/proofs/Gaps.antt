@@ -1,11 +1,20 @@
 -- The gaps between runs are the stretches of the numbers between them. Assumes nothing.
-use Rattle.std.proofs.Common.{◌≡◌, ℕ, zero, suc, ◌+◌, ◌-◌, ◌<◌, ◌≤◌, true, false, not, ◌&&◌, ◌||◌, ltb, List, [], ◌∷◌, ◌++◌, length, get_or, take, sym, refl, ap, ◌∙◌, ⊎_elim, le_of_suc-le-suc, arith}
+use Rattle.std.proofs.Common.{◌≡◌, ℕ, zero, suc, ◌+◌, ◌-◌, ◌<◌, ◌≤◌, true, false, cond, not, ◌&&◌, ◌||◌, ltb, List, [], ◌∷◌, ◌++◌, length, get_or, take, sym, refl, ap, ◌∙◌, ⊎_elim, le_of_suc-le-suc, arith}
 use Rattle.std.proofs.lemmas.List.{append_assoc, append-nil}
 use Rattle.std.proofs.lemmas.Bool.{both_ways, or_cases, and_from, and_left, and_right, cases_lt, cond_both, le-ltb, lt-ltb, ltb-true, ltb-false, or_from, or_left, or_right}
 use Rattle.runs.proofs.Ascends.{Rising, covers_append, covers_below, covers_past, rising_weaker, within_after, within_in, within_parts}
-use Rattle.runs.specs.Gaps.{between, edge, gap, highest}
+use Rattle.runs.specs.Gaps.{between, highest}
 use Rattle.runs.specs.Stretches.{covers, within}
 use Rattle.runs.specs.declared.run.Run.{Run}
+
+-- the numbers from a on, below b
+abbrev pub gap : ℕ → ℕ → List Run
+gap a b = cond (ltb a b) (record { first = a; last = b - 1 } ∷ []) []
+
+-- the first number above the runs, from `low` on
+abbrev pub edge : ℕ → List Run → ℕ
+edge low [] = low
+edge low (r ∷ rs) = edge (suc r.last) rs
 
 -- the gaps in front of runs, from `low` on
 abbrev pub gaps_from : ℕ → List Run → List Run
@@ -66,6 +75,19 @@ rising_next low [] i d g h = absurd (omega arith)
 rising_next low (r ∷ []) i d g h = absurd (omega arith)
 rising_next low (r ∷ (s ∷ rs)) zero d g h = g.2.0
 rising_next low (r ∷ (s ∷ rs)) (suc i) d g h = rising_next (r.last + 2) (s ∷ rs) i d g.2 (le_of_suc-le-suc h)
+
+rising_above : (low : ℕ) (rs : List Run) (i : ℕ) (d : Run) → Rising low rs → i < length rs → low ≤ (get_or rs i d).last
+rising_above low [] i d g h = absurd (omega arith)
+rising_above low (r ∷ rs) zero d g h = omega arith
+rising_above low (r ∷ rs) (suc i) d g h = let above = rising_above (r.last + 2) rs i d g.2 (le_of_suc-le-suc h) in omega arith
+
+-- of two rising runs the earlier ends no later
+pub rising_apart : (low : ℕ) (rs : List Run) (i j : ℕ) (d : Run) → Rising low rs → i ≤ j → j < length rs → (get_or rs i d).last ≤ (get_or rs j d).last
+rising_apart low [] i j d g h l = absurd (omega arith)
+rising_apart low (r ∷ rs) zero zero d g h l = omega arith
+rising_apart low (r ∷ rs) zero (suc j) d g h l = let above = rising_above (r.last + 2) rs j d g.2 (le_of_suc-le-suc l) in omega arith
+rising_apart low (r ∷ rs) (suc i) zero d g h l = absurd (omega arith)
+rising_apart low (r ∷ rs) (suc i) (suc j) d g h l = rising_apart (r.last + 2) rs i j d g.2 (le_of_suc-le-suc h) (le_of_suc-le-suc l)
 
 pub edge_at : (low : ℕ) (rs : List Run) (i : ℕ) (d : Run) → i < length rs → edge low (take (suc i) rs) ≡ suc (get_or rs i d).last
 edge_at low [] i d h = absurd (omega arith)

@@ -1,21 +1,24 @@
 -- What the changes of a table do to the runs in use. Assumes nothing.
-use Rattle.std.proofs.Common.{◌≡◌, ℕ, suc, ◌+◌, ◌-◌, ◌<◌, ◌≤◌, max, true, false, leb, List, ◌∷◌, ◌++◌, length, get_or, take, drop, set, Some, None, Option, sym, ap, ◌∙◌, subst, ap₂, subst₂, arith, length-drop, length-set, length-take}
+use Rattle.std.proofs.Common.{◌≡◌, ℕ, suc, ◌+◌, ◌-◌, ◌<◌, ◌≤◌, max, true, false, leb, List, ◌∷◌, ◌++◌, length, get_or, take, drop, set, zero, [], Some, None, Option, MatchOption, slice_get, Bor, sym, ap, ◌∙◌, subst, ap₂, le_of_suc-le-suc, arith, length-drop, length-set, length-take}
 use borrow.Rule.Slice.PartMut.{put_mid, mid_of}
-use Rattle.std.proofs.ByRecursion.{All-more}
-use Rattle.std.proofs.lemmas.List.{take_more, length-append, take_all, get_or_default, get_or-drop, get_or-take, get_or-set_same, get_or-set_other, set-set}
-use Rattle.std.proofs.lemmas.Bool.{cond-false, cond-true, le-ltb, leb-false, leb-true, lt-ltb}
-use Rattle.runs.proofs.Ascends.{ascending_from, rising_from, stretches_exact}
-use Rattle.runs.proofs.Gaps.{edge_at, gaps_cover, gaps_from, gaps_more, gaps_rising, highest_last, rising_here, rising_next, rising_take}
+use Rattle.std.proofs.lemmas.List.{take_more, length-append, take_all, append-nil, get_or_default, get_or-drop, get_or-take, get_or-set_same, get_or-set_other, set-set}
+use Rattle.std.proofs.lemmas.Option.{same_Some, slice_get-get_or}
+use Rattle.std.proofs.lemmas.Bool.{cond-false, cond-true, le-leb, le-ltb, leb-false, leb-true, lt-ltb}
+use Rattle.runs.proofs.Ascends.{Rising, ascending_from, rising_from, stretches_exact}
+use Rattle.runs.proofs.Gaps.{edge, edge_at, gap, gaps_cover, gaps_from, gaps_more, gaps_rising, highest_last, rising_apart, rising_here, rising_next, rising_take}
 use Rattle.runs.proofs.Sizes.{total, total_counts, total_more}
 use Rattle.runs.proofs.Moves.{move_up, move_down, set_used}
 use Rattle.runs.proofs.Openings.{alone_stretches, between_stretches, join_stretches}
 use Rattle.runs.proofs.Edits.{widened, joined}
 use Rattle.runs.specs.Places.{Between, Place, Touches}
-use Rattle.runs.specs.Gaps.{GapBefore, between, edge, gap, highest}
-use Rattle.std.specs.Option.{option_to_list}
+use Rattle.runs.specs.Gaps.{between, highest}
 use Rattle.runs.specs.Stretches.{Counts, Stretches, ascending, covers, most_runs, with_number}
+use Rattle.runs.specs.Contents.{runs_in}
 use Rattle.runs.specs.declared.run.Run.{Run}
+use Rattle.runs.specs.declared.table.RunTable.{RunTable}
 use Rattle.std.specs.List.{AllByRecursion}
+use Rattle.std.specs.Option.{option_copied}
+use Rattle.std.specs.List.Sorted.{IsPartitionPoint, IsPartitionedBy}
 
 -- any run, for reading a list within its length
 abbrev pub some_run : Run
@@ -78,30 +81,6 @@ module _ (mem : List Run) (c n : ℕ) (fits : c ≤ length mem) where
   at_place : (p : ℕ) (d : Run) → p < c → get_or (take c mem) p d ≡ get_or mem p some_run
   at_place p d h = get_or-take c mem p d h ∙ get_or_default mem p d some_run (omega arith)
 
-  pub place_found : (p : ℕ) → p < c → AllByRecursion (λ r. r.last + 2 ≤ n) (take p (take c mem)) → leb (suc (suc (get_or mem p some_run).last)) n ≡ false → Place (take c mem) n p
-  place_found p h before here =
-      record { clear = (omega (arith, used), before); here = λ d _. subst (λ r. n ≤ suc r.last) (sym (at_place p d h)) (omega (arith, leb-false _ _ here)) }
-
-  pub place_more : (p : ℕ) → p < c → AllByRecursion (λ r. r.last + 2 ≤ n) (take p (take c mem)) → leb (suc (suc (get_or mem p some_run).last)) n ≡ true → AllByRecursion (λ r. r.last + 2 ≤ n) (take (p + 1) (take c mem))
-  place_more p h before here =
-      All-more (λ r. r.last + 2 ≤ n) (take c mem) p some_run (omega (arith, used)) before (subst (λ r. r.last + 2 ≤ n) (sym (at_place p some_run h)) (omega (arith, leb-true _ _ here)))
-
-  pub place_last : (p : ℕ) → c ≤ p → AllByRecursion (λ r. r.last + 2 ≤ n) (take p (take c mem)) → Place (take c mem) n c
-  place_last p h before =
-      record {
-        clear = (omega (arith, used), subst (AllByRecursion (λ r. r.last + 2 ≤ n)) (take_all p (take c mem) (omega (arith, used)) ∙ sym (take_all c (take c mem) (omega (arith, used)))) before);
-        here = λ d l. absurd (omega (arith, used));
-      }
-
-  pub touches_found : (p : ℕ) → Place (take c mem) n p → p < c → leb (suc (suc n)) (get_or mem p some_run).first ≡ false → Touches (take c mem) n p
-  touches_found p at h near =
-      record {
-        clear = at.clear;
-        inside = omega (arith, used);
-        begins = λ d. subst (λ r. r.first ≤ suc n) (sym (at_place p d h)) (omega (arith, leb-false _ _ near));
-        ends = λ d. at.here d (omega (arith, used));
-      }
-
   pub between_found : (p : ℕ) → Place (take c mem) n p → (p < c → leb (suc (suc n)) (get_or mem p some_run).first ≡ true) → Between (take c mem) n p
   between_found p at far =
       record {
@@ -115,59 +94,81 @@ module _ (mem : List Run) (c n : ℕ) (fits : c ≤ length mem) where
       let more = take p (take c mem) ++ record { first = n; last = n } ∷ drop p (take c mem) in
       (more, between_stretches (take c mem) n p rising b, simp (length-append, length-take, length-drop) (omega (arith, b.clear.0, used)))
 
--- reading the runs in use
-module _ (mem : List Run) (c : ℕ) (fits : c ≤ length mem) (rising : ascending 0 (take c mem) ≡ true) where
-  in_use_length : length (take c mem) ≡ c
-  in_use_length = simp length-take (omega arith)
+-- reading rising runs
+module _ (rs : List Run) (rising : ascending 0 rs ≡ true) where
+  order : Rising 0 rs
+  order = rising_from 0 rs rising
 
-  in_use_at : (i : ℕ) (d : Run) → i < c → get_or (take c mem) i d ≡ get_or mem i some_run
-  in_use_at i d h = get_or-take c mem i d h ∙ get_or_default mem i d some_run (omega arith)
+  pub ends_partition : (n : ℕ) → IsPartitionedBy (λ r. leb (suc (suc r.last)) n) rs
+  ends_partition n i j d h l before =
+      let below = rising_apart 0 rs i j d order h l in
+      le-leb _ _ (omega (arith, leb-true _ _ before))
 
-  pub in_order : (i : ℕ) → i < c → (get_or mem i some_run).first ≤ (get_or mem i some_run).last
-  in_order i h = subst (λ r. r.first ≤ r.last) (in_use_at i some_run h) (rising_here 0 (take c mem) i some_run (rising_from 0 _ rising) (omega (arith, in_use_length)))
+  pub in_order : (i : ℕ) (d : Run) → i < length rs → (get_or rs i d).first ≤ (get_or rs i d).last
+  in_order i d h = rising_here 0 rs i d order h
 
-  pub next_above : (i : ℕ) → 0 < i → i < c → (get_or mem (i - 1) some_run).last + 2 ≤ (get_or mem i some_run).first
-  next_above i p h =
-      let e : suc (i - 1) ≡ i = omega arith in
-      subst (λ k. (get_or mem (i - 1) some_run).last + 2 ≤ (get_or mem k some_run).first) e
-      (subst₂ (λ a b. a.last + 2 ≤ b.first) (in_use_at (i - 1) some_run (omega arith)) (in_use_at (suc (i - 1)) some_run (omega arith))
-      (rising_next 0 (take c mem) (i - 1) some_run (rising_from 0 _ rising) (omega (arith, in_use_length))))
+  pub more_total : (i : ℕ) (d : Run) → i < length rs → total (take (i + 1) rs) ≡ total (take i rs) + ((get_or rs i d).last - (get_or rs i d).first + 1)
+  more_total i d h = ap total (take_more rs i d h) ∙ total_more (take i rs) (get_or rs i d)
 
-  pub more_total : (i : ℕ) → i < c → total (take (i + 1) (take c mem)) ≡ total (take i (take c mem)) + ((get_or mem i some_run).last - (get_or mem i some_run).first + 1)
-  more_total i h =
-      ap total (take_more (take c mem) i some_run (omega (arith, in_use_length))) ∙ total_more (take i (take c mem)) (get_or (take c mem) i some_run)
-      ∙ ap (λ r. total (take i (take c mem)) + (r.last - r.first + 1)) (in_use_at i some_run h)
+  pub all_total : (i : ℕ) → length rs ≤ i → Counts rs (total (take i rs))
+  all_total i h = subst (λ l. Counts rs (total l)) (sym (take_all i rs h)) (total_counts rs order)
 
-  pub all_total : (i : ℕ) → c ≤ i → Counts (take c mem) (total (take i (take c mem)))
-  all_total i h = subst (λ l. Counts (take c mem) (total l)) (sym (take_all i (take c mem) (omega (arith, in_use_length)))) (total_counts (take c mem) (rising_from 0 _ rising))
-
-  pub edge_above : (i : ℕ) → 0 < i → i < c → suc (get_or mem (i - 1) some_run).last ≡ edge 0 (take i (take c mem))
-  edge_above i p h =
-      let e : suc (i - 1) ≡ i = omega arith in
-      sym (ap (λ k. edge 0 (take k (take c mem))) (sym e) ∙ edge_at 0 (take c mem) (i - 1) some_run (omega (arith, in_use_length)) ∙ ap (λ r. suc r.last) (in_use_at (i - 1) some_run (omega arith)))
-
-  pub gap_found : (i first : ℕ) → i < c → first ≡ edge 0 (take i (take c mem)) → first < (get_or mem i some_run).first → GapBefore (take c mem) i (Some (record { first = first; last = (get_or mem i some_run).first - 1 }))
-  gap_found i first h is lt d =
-      let there = sym (in_use_at i d h) in
-      sym (cond-true _ _ _ (lt-ltb first (get_or mem i some_run).first lt)) ∙ ap₂ (λ a r. gap a r.first) is there
-
-  pub gap_none : (i first : ℕ) → i < c → first ≡ edge 0 (take i (take c mem)) → (get_or mem i some_run).first ≤ first → GapBefore (take c mem) i None
-  gap_none i first h is le d =
-      sym (cond-false _ _ _ (le-ltb first (get_or mem i some_run).first le)) ∙ ap₂ (λ a r. gap a r.first) is (sym (in_use_at i d h))
+  pub next_above : (i : ℕ) (d : Run) → i + 1 < length rs → (get_or rs i d).last + 2 ≤ (get_or rs (i + 1) d).first
+  next_above i d h = let here : suc i ≡ i + 1 = omega arith in subst (λ k. (get_or rs i d).last + 2 ≤ (get_or rs k d).first) here (rising_next 0 rs i d order (omega arith))
 
   -- the gaps so far, with the one in front of the next run
-  pub gaps_next : (gaps : List Run) (i : ℕ) (found : Option Run) → i < c → gaps ≡ gaps_from 0 (take i (take c mem)) → GapBefore (take c mem) i found → gaps ++ option_to_list found ≡ gaps_from 0 (take (i + 1) (take c mem))
-  gaps_next gaps i found h is at =
-      ap₂ (λ a b. a ++ b) is (at some_run) ∙ sym (gaps_more 0 (take i (take c mem)) (get_or (take c mem) i some_run)) ∙ ap (gaps_from 0) (sym (take_more (take c mem) i some_run (omega (arith, in_use_length))))
+  pub gaps_next : (gaps : List Run) (i : ℕ) (d : Run) → i + 1 < length rs → gaps ≡ gaps_from 0 (take (i + 1) rs) → gaps ++ record { first = suc (get_or rs i d).last; last = (get_or rs (i + 1) d).first - 1 } ∷ [] ≡ gaps_from 0 (take (i + 1 + 1) rs)
+  gaps_next gaps i d h is =
+      let here : suc i ≡ i + 1 = omega arith in
+      let low = subst (λ k. edge 0 (take k rs) ≡ suc (get_or rs i d).last) here (edge_at 0 rs i d (omega arith)) in
+      let one : gap (suc (get_or rs i d).last) (get_or rs (i + 1) d).first ≡ record { first = suc (get_or rs i d).last; last = (get_or rs (i + 1) d).first - 1 } ∷ [] = cond-true _ _ _ (lt-ltb (suc (get_or rs i d).last) (get_or rs (i + 1) d).first (omega (arith, next_above i d h))) in
+      ap₂ (λ a b. a ++ b) is (sym (ap (λ a. gap a (get_or rs (i + 1) d).first) low ∙ one)) ∙ sym (gaps_more 0 (take (i + 1) rs) (get_or rs (i + 1) d)) ∙ ap (gaps_from 0) (sym (take_more rs (i + 1) d h))
 
-  pub gaps_ascend : (gaps : List Run) (i : ℕ) → gaps ≡ gaps_from 0 (take i (take c mem)) → ascending 0 gaps ≡ true
-  gaps_ascend gaps i is = subst (λ l. ascending 0 l ≡ true) (sym is) (ascending_from 0 _ (gaps_rising 0 (take i (take c mem)) (rising_take 0 (take c mem) i (rising_from 0 _ rising))))
+  pub gaps_ascend : (gaps : List Run) (i : ℕ) → gaps ≡ gaps_from 0 (take i rs) → ascending 0 gaps ≡ true
+  gaps_ascend gaps i is = subst (λ l. ascending 0 l ≡ true) (sym is) (ascending_from 0 _ (gaps_rising 0 (take i rs) (rising_take 0 rs i order)))
 
-  pub gaps_all : (gaps : List Run) (i : ℕ) → c ≤ i → gaps ≡ gaps_from 0 (take i (take c mem)) → Stretches (between (take c mem)) gaps
+  pub gaps_all : (gaps : List Run) (i : ℕ) → length rs ≤ i → gaps ≡ gaps_from 0 (take i rs) → Stretches (between rs) gaps
   gaps_all gaps i h is =
-      let r = rising_from 0 (take c mem) rising in
-      subst (Stretches (between (take c mem))) (sym (is ∙ ap (gaps_from 0) (take_all i (take c mem) (omega (arith, in_use_length)))))
-      (stretches_exact (between (take c mem)) (gaps_from 0 (take c mem)) (gaps_rising 0 (take c mem) r) (λ n. gaps_cover 0 n (take c mem) r (omega arith)))
+      subst (Stretches (between rs)) (sym (is ∙ ap (gaps_from 0) (take_all i rs h)))
+      (stretches_exact (between rs) (gaps_from 0 rs) (gaps_rising 0 rs order) (λ n. gaps_cover 0 n rs order (omega arith)))
 
-  pub highest_read : 0 < c → (get_or mem (c - 1) some_run).last ≡ highest (take c mem)
-  highest_read p = sym (highest_last (take c mem) (c - 1) some_run (omega (arith, in_use_length)) ∙ ap (λ r. r.last) (in_use_at (c - 1) some_run (omega arith)))
+-- where the tests of the runs' ends turn
+below_all : (P : Run → Type 0) (rs : List Run) (q : ℕ) → q ≤ length rs → ((k : ℕ) (d : Run) → k < q → P (get_or rs k d)) → AllByRecursion P (take q rs)
+below_all P rs zero h f = tt
+below_all P [] (suc q) h f = absurd (omega arith)
+below_all P (r ∷ rs) (suc q) h f = (f 0 r (omega arith), below_all P rs q (le_of_suc-le-suc h) (λ k d l. f (suc k) d (omega arith)))
+
+pub place_found : (rs : List Run) (n p : ℕ) → p ≤ length rs → IsPartitionPoint (λ r. leb (suc (suc r.last)) n ≡ true) (λ r. leb (suc (suc r.last)) n ≡ false) rs p → Place rs n p
+place_found rs n p h at = record {
+  clear = (h, below_all (λ r. r.last + 2 ≤ n) rs p h (λ k d l. omega (arith, leb-true _ _ (at.0 k d (omega arith) l))));
+  here = λ d l. omega (arith, leb-false _ _ (at.1 p d (omega arith) l));
+}
+
+pub count_is : (table : RunTable) → length (runs_in table) ≡ table.count
+count_is table = simp length-take (omega arith)
+
+-- a slice of all runs of a table
+module _ (table : RunTable) (rs : List Run) (all : rs ≡ runs_in table) where
+  pub few : length rs ≤ most_runs
+  few = rw all (omega (arith, count_is table))
+
+  pub rise : ascending 0 rs ≡ true
+  rise = rw all table.rising
+
+  -- those after the first
+  pub later_length : length (take (length rs - 1) (drop 1 rs)) ≡ length (runs_in table) - 1
+  later_length = omega (arith, length-take (length rs - 1) (drop 1 rs), length-drop 1 rs, ap length all)
+
+  pub later_at : (i : ℕ) (d : Run) → i < length (take (length rs - 1) (drop 1 rs)) → get_or (take (length rs - 1) (drop 1 rs)) i d ≡ get_or (runs_in table) (i + 1) some_run
+  later_at i d h =
+      let l : i < length rs - 1 = omega (arith, later_length, ap length all) in
+      get_or-take (length rs - 1) (drop 1 rs) i d l ∙ get_or-drop 1 rs i d ∙ ap (λ k. get_or rs k d) (omega arith) ∙ get_or_default rs (i + 1) d some_run (omega arith) ∙ ap (λ l. get_or l (i + 1) some_run) all
+
+-- what the last of the runs tells, where there is one
+pub highest_told : (rs : List Run) (found : Option (Bor Run)) (n : ℕ) (Tells : Bor Run → Type 0) → option_copied found ≡ slice_get rs (length rs - 1) → MatchOption found (n ≡ 0) Tells → ((r : Bor Run) → Tells r → n ≡ r.now.last) → n ≡ highest rs
+highest_told [] None n Tells is told read = told
+highest_told [] (Some b) n Tells is told read = absurd (cc)
+highest_told (r ∷ rs) None n Tells is told read = absurd (let e = slice_get-get_or (r ∷ rs) (length (r ∷ rs) - 1) r (omega arith) in cc)
+highest_told (r ∷ rs) (Some b) n Tells is told read =
+    let last = slice_get-get_or (r ∷ rs) (length (r ∷ rs) - 1) r (omega arith) in
+    read b told ∙ ap (λ q. q.last) (same_Some _ _ (is ∙ last)) ∙ sym (highest_last (r ∷ rs) (length (r ∷ rs) - 1) r (omega arith))

@@ -1,3 +1,4 @@
+pub mod Contents
 pub mod Gaps
 pub mod Places
 pub mod Stretches

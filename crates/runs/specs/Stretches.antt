@@ -1,5 +1,7 @@
 -- Runs: the maximal stretches of the numbers that pass a test. Assumes nothing.
-use Rattle.std.specs.Prelude.{◌≡◌, ℕ, zero, suc, ◌+◌, ◌<◌, ◌≤◌, Bool, true, false, cond, ◌&&◌, ◌||◌, List, [], ◌∷◌, length, ◌==◌, nat_le}
+use Rattle.std.specs.Prelude.{◌≡◌, ℕ, zero, suc, ◌+◌, ◌<◌, ◌≤◌, Bool, true, false, cond, ◌&&◌, ◌||◌, List, [], ◌∷◌, length, ◌==◌, nat_le, Ok, Err, Result}
+use Rattle.refusal.specs.declared.Refusal.{Refusal}
+use Rattle.refusal.specs.declared.Refusal.TheVariants.{TooManyRuns}
 use Rattle.runs.specs.declared.run.Run.{Run}
 use Rattle.std.specs.List.{AllByRecursion}
 
@@ -64,11 +66,11 @@ abbrev pub with_number : (ℕ → Bool) → ℕ → ℕ → Bool
 with_number passes n m = passes m || m == n
 
 -- what adding the number n to the runs does: they are then the runs of their numbers and n;
--- or, where those would be more runs than there are places, nothing
-abbrev pub Adds : List Run → ℕ → Bool → List Run → Type 0
-Adds before n true after = Stretches (with_number (covers before) n) after
-Adds before n false after =
-    (after ≡ before) × ((more : List Run) × Stretches (with_number (covers before) n) more × (most_runs < length more))
+-- or, where those would be more runs than there are places, it is refused and nothing changes
+abbrev pub Adds : List Run → ℕ → Result (Unit {0}) Refusal → List Run → Type 0
+Adds before n (Ok done) after = Stretches (with_number (covers before) n) after
+Adds before n (Err refusal) after =
+    (refusal ≡ TooManyRuns) × (after ≡ before) × ((more : List Run) × Stretches (with_number (covers before) n) more × (most_runs < length more))
 
 -- how many numbers below the limit pass
 abbrev pub counted : (ℕ → Bool) → ℕ → ℕ

@@ -1,5 +1,5 @@
 // One run of consecutive numbers.
-ghost use Rattle.std.specs.Prelude.{◌≡◌, suc, ◌+◌, ◌-◌, ◌<◌, ◌≤◌, min, max, nat_le};
+ghost use Rattle.std.specs.Prelude.{◌≡◌, suc, ◌+◌, ◌-◌, ◌≤◌, min, max, nat_le};
 
 // Both ends belong to it.
 #[derive(Clone, Copy)]
@@ -54,11 +54,14 @@ impl Run {
         u32::from(self.last - self.first) + 1
     }
 
-    // The number after its last, which a run above it leaves room for.
-    pub(crate) fn after(self, next: Run) -> u16
-        requires { self.last < next.first }
-        ensures { result ≡ suc self.last }
+    // The numbers between it and a run above it.
+    pub(crate) fn gap_to(self, above: Run) -> Run
+        requires { self.last + 2 ≤ above.first }
+        ensures { result ≡ record { first = suc self.last; last = above.first - 1 } }
     {
-        self.last + 1
+        Run {
+            first: self.last + 1,
+            last: above.first - 1,
+        }
     }
 }

@@ -1,29 +1,15 @@
 -- Bytes put behind those in use. Assumes nothing.
-use Rattle.std.proofs.Common.{◌≡◌, ℕ, ◌+◌, ◌-◌, ◌<◌, ◌≤◌, List, [], ◌∷◌, ◌++◌, length, get_or, take, drop, decimal, sym, refl, ap, ◌∙◌, subst, ap₂, arith, length-drop, length-take}
-use borrow.Rule.Slice.PartMut.{Post-is, put_mid}
-use Rattle.decimal.specs.Decimal.{fixed}
-use Rattle.ids.specs.declared.TransactionId.{TransactionId}
+use Rattle.std.proofs.Common.{◌≡◌, ℕ, ◌+◌, ◌-◌, ◌<◌, ◌≤◌, List, [], ◌∷◌, ◌++◌, length, get_or, take, drop, sym, refl, ap, ◌∙◌, ap₂, arith, length-drop}
+use borrow.Rule.Slice.PartMut.{Post-is, post_of, put_mid}
 use Rattle.runs.specs.declared.run.Run.{Run}
-use Rattle.statement.specs.Lines.{head, stretch_text, stretches_text}
+use Rattle.statement.specs.Lines.{stretch_text, stretches_text}
 use Rattle.statement.specs.Statement.{Stands}
 use Rattle.std.specs.List.{flat_map}
-use Rattle.std.proofs.lemmas.List.{append_assoc, append-nil, drop_at, drop-drop, drop_more, length-append, take-append-drop, take_at, flat_map_more, take_all, take_more, take_rest}
+use Rattle.std.proofs.lemmas.List.{append_assoc, append-nil, drop_at, drop-drop, drop_all, drop_more, length-append, take_at, flat_map_more, take_all, take_more, take_rest}
 
 -- one text behind another
 pub chained : (base x y : List ℕ) {first second : List ℕ} → first ≡ base ++ x → second ≡ first ++ y → second ≡ base ++ (x ++ y)
 chained base x y p q = q ∙ ap (λ l. l ++ y) p ∙ append_assoc base x y
-
--- the id behind its letter
-pub head_chained : (letter : ℕ) (id : TransactionId) (a b c d e : List ℕ) → a ≡ letter ∷ [] → b ≡ a ++ 32 ∷ [] → c ≡ b ++ fixed 5 id.station → d ≡ c ++ 45 ∷ [] → e ≡ d ++ fixed 8 id.session → e ≡ head letter id
-head_chained letter id a b c d e p q r s t =
-    t ∙ ap (λ l. l ++ fixed 8 id.session) (s ∙ ap (λ l. l ++ 45 ∷ []) (r ∙ ap (λ l. l ++ fixed 5 id.station) (q ∙ ap (λ l. l ++ 32 ∷ []) p)))
-    ∙ ap (λ l. letter ∷ (32 ∷ l)) (append_assoc (fixed 5 id.station) (45 ∷ []) (fixed 8 id.session))
-
--- a stretch behind a text
-pub stretch_chained : (base : List ℕ) (r : Run) {a b c : List ℕ} → a ≡ base ++ decimal r.first → b ≡ a ++ 45 ∷ [] → c ≡ b ++ decimal r.last → c ≡ base ++ stretch_text r
-stretch_chained base r p q s =
-    chained base (decimal r.first ++ 45 ∷ []) (decimal r.last) (chained base (decimal r.first) (45 ∷ []) p q) s
-    ∙ ap (λ l. base ++ l) (append_assoc (decimal r.first) (45 ∷ []) (decimal r.last))
 
 -- one stretch more, behind a comma
 pub comma_chained : (base : List ℕ) (rs : List Run) (i : ℕ) (d : Run) {a b c : List ℕ} → i < length rs → a ≡ base ++ flat_map (λ q. 44 ∷ stretch_text q) (take i rs) → b ≡ a ++ 44 ∷ [] → c ≡ b ++ stretch_text (get_or rs i d) → c ≡ base ++ flat_map (λ q. 44 ∷ stretch_text q) (take (i + 1) rs)
@@ -33,21 +19,17 @@ comma_chained base rs i d {a} h p q s =
     ∙ flat_map_more (λ q. 44 ∷ stretch_text q) base (take i rs) (get_or rs i d)
     ∙ ap (λ l. base ++ flat_map (λ q. 44 ∷ stretch_text q) l) (sym (take_more rs i d h))
 
+-- no stretch
+pub none_chained : (base : List ℕ) (rs : List Run) {b : List ℕ} → length rs < 1 → b ≡ base ++ 45 ∷ [] → b ≡ base ++ stretches_text rs
+none_chained base [] h p = p
+none_chained base (r ∷ rs) h p = absurd (omega arith)
+
 -- all the stretches
 pub stretches_chained : (base : List ℕ) (rs : List Run) (i : ℕ) (d : Run) {a b : List ℕ} → 0 < length rs → length (take (length rs - 1) (drop 1 rs)) ≤ i → a ≡ base ++ stretch_text (get_or rs 0 d) → b ≡ a ++ flat_map (λ q. 44 ∷ stretch_text q) (take i (take (length rs - 1) (drop 1 rs))) → b ≡ base ++ stretches_text rs
 stretches_chained base rs i d some all p q =
     chained base (stretch_text (get_or rs 0 d)) (flat_map (λ q. 44 ∷ stretch_text q) (take i (take (length rs - 1) (drop 1 rs)))) p q
     ∙ ap (λ l. base ++ (stretch_text (get_or rs 0 d) ++ flat_map (λ q. 44 ∷ stretch_text q) l)) (take_all i (take (length rs - 1) (drop 1 rs)) all ∙ take_rest rs 1)
     ∙ ap (λ l. base ++ stretches_text l) (sym (drop_more rs 0 d some))
-
--- nothing more is written
-pub stands_none : (out : List ℕ) (start : ℕ) → start ≤ length out → Stands (take start out ++ []) out out
-stands_none out start h =
-    subst (λ l. Stands l out out) (sym (append-nil (take start out)))
-    (record {
-      fits = simp length-take (omega arith);
-      written = sym (take-append-drop start out) ∙ ap (λ n. take start out ++ drop n out) (sym (length-take start out ∙ omega arith));
-    })
 
 -- a text copied behind what stands
 pub stands_copy : (text before out more : List ℕ) (end next : ℕ) → Stands text before out → end ≡ length text → next ≡ end + length more → next ≤ length before → Stands (text ++ more) before (put_mid end (next - end) out more)
@@ -67,16 +49,20 @@ stands_copy text before out more end next s is far room =
     next_is : next ≡ length text + length more
     next_is = omega arith
 
--- what stands behind what stood
-pub stands_behind : (text more before between after : List ℕ) (end : ℕ) → Stands text before between → end ≡ length text → Stands (take end between ++ more) between after → Stands (text ++ more) before after
-stands_behind text more before between after end s is t =
+-- a text that stands in the rest of the buffer stands behind the first
+pub stands_rest : (text more before between part : List ℕ) (end : ℕ) → Stands text before between → end ≡ length text → Stands more (take (length between - end) (drop end between)) part → Stands (text ++ more) before (put_mid end (length between - end) between part)
+stands_rest text more before between part end s is t =
+    let long : length between ≡ length before = omega (arith, ap length s.written, length-append text (drop (length text) before), length-drop (length text) before, s.fits) in
     let front : take end between ≡ text = ap (take end) s.written ∙ take_at text (drop (length text) before) end (sym is) in
-    let t' : Stands (text ++ more) between after = subst (λ l. Stands (l ++ more) between after) front t in
-    let both = length-append text more in
-    let back : drop (length (text ++ more)) between ≡ drop (length (text ++ more)) before =
-    ap₂ drop both s.written ∙ sym (drop-drop (length more) (length text) (text ++ drop (length text) before))
-    ∙ ap (drop (length more)) (drop_at text (drop (length text) before) (length text) refl) ∙ drop-drop (length more) (length text) before ∙ ap (λ n. drop n before) (sym both) in
+    let rest : drop end between ≡ drop (length text) before = ap₂ drop is s.written ∙ drop_at text (drop (length text) before) (length text) refl in
+    let lent : take (length between - end) (drop end between) ≡ drop (length text) before = take_rest between end ∙ rest in
+    let here : part ≡ more ++ drop (length text + length more) before = t.written ∙ ap (λ l. more ++ drop (length more) l) lent ∙ ap (λ l. more ++ l) (drop-drop (length more) (length text) before) in
+    let none : post_of end (length between - end) between ≡ [] = Post-is end (length between) between (omega (arith, s.fits)) ∙ drop_all (length between) between (omega arith) in
     record {
-      fits = omega (arith, t'.fits, ap length s.written, length-append text (drop (length text) before), length-drop (length text) before, s.fits);
-      written = t'.written ∙ ap (λ l. (text ++ more) ++ l) back;
+      fits = omega (arith, t.fits, ap length lent, length-append text more, length-drop (length text) before, s.fits);
+      written =
+          ap₂ (λ a b. a ++ (part ++ b)) front none
+          ∙ ap (λ l. text ++ l) (append-nil part ∙ here)
+          ∙ sym (append_assoc text more (drop (length text + length more) before))
+          ∙ ap (λ n. (text ++ more) ++ drop n before) (sym (length-append text more));
     }

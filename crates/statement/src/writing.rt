@@ -4,7 +4,7 @@ ghost use Rattle.statement.specs.Statement.{Writes};
 
 use crate::part::Part;
 use crate::rows::{billed_count, rows_size, total_line, write_rows};
-use cents::LARGEST_PRICE;
+use cents::Price;
 use ledger::Ledger;
 use refusal::Refusal;
 
@@ -13,9 +13,7 @@ use refusal::Refusal;
 pub fn write(ledger: &Ledger<'_>, price: u64, out: &mut [u8]) -> Result<usize, Refusal>
     ensures { Writes (events_in ledger.now) price out.old result out.new }
 {
-    if price > LARGEST_PRICE {
-        return Err(Refusal::OutOfRange);
-    }
+    let price = Price::new(price)?;
     let billed = billed_count(ledger);
     let total = total_line(billed, ledger.len() - billed);
     let rows = rows_size(ledger, price, Part::Billed) + rows_size(ledger, price, Part::Open);
@@ -23,8 +21,8 @@ pub fn write(ledger: &Ledger<'_>, price: u64, out: &mut [u8]) -> Result<usize, R
     if size > out.len() {
         return Err(Refusal::BufferTooSmall);
     }
-    let bills = write_rows(ledger, price, Part::Billed, out, 0);
-    let end = write_rows(ledger, price, Part::Open, out, bills);
-    out[end..size].copy_from_slice(total.text());
+    let bills = write_rows(ledger, price, Part::Billed, out);
+    write_rows(ledger, price, Part::Open, &mut out[bills..]);
+    out[rows..size].copy_from_slice(total.text());
     Ok(size)
 }

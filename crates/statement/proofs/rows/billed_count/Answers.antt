@@ -1,22 +1,15 @@
-use Rattle.std.proofs.Common.{◌≡◌, ℕ, Bool, cond, length, get_or, filter, sym, ap, ◌∙◌, arith}
+use Rattle.std.proofs.Common.{◌≡◌, length, filter, rules, ap, ◌∙◌, arith}
+use Rattle.std.proofs.lemmas.Iterator.{YieldsList-from_range}
+use Rattle.std.proofs.lemmas.Iterator.Consumers.{count_from_yields_List, YieldsList-from_filter}
+use Rattle.std.specs.List.{range_with_len}
 use Rattle.ledger.specs.Contents.{events_in}
-use Rattle.ledger.specs.Held.{billed, sessions}
-use Rattle.std.proofs.lemmas.List.{take_all}
-use Rattle.statement.proofs.Told.{count_more, some_id}
+use Rattle.statement.proofs.Told.{places_billed}
+use Rattle.statement.specs.Parts.{billed_at}
 use Rattle.statement.proofs.rows.billed_count.Goals as goal
-use Rattle.statement.proofs.rows.billed_count.Goals.{then-is_billed, else-is_billed}
-
-pub loop-place-preserved : goal.loop-place-preserved
-loop-place-preserved c =
-    let events = events_in c.args.ledger.now in
-    let more = count_more (billed events) (sessions events) c.loop-place.place c.loop-place.count some_id (omega arith) c.loop-place.invariant.0 in
-    let one : (b : Bool) → c.is_billed.result ≡ b → cond {A = ℕ} (billed events (get_or (sessions events) c.loop-place.place some_id)) 1 0 ≡ cond b 1 0 = λ b e. ap (λ x. cond {A = ℕ} x 1 0) (sym (c.is_billed.ensures some_id) ∙ e) in
-    elim c.if-is_billed.branch [
-      | then-is_billed w ↦ (omega (arith, w.count-is, one _ w.if-is_billed.true), omega (arith, w.count-is))
-      | else-is_billed w ↦ (omega (arith, w.count-is, one _ w.if-is_billed.false), omega (arith, w.count-is))
-    ]
 
 pub returns : goal.returns
 returns c =
     let events = events_in c.args.ledger.now in
-    c.loop-place.invariant.0 ∙ ap (λ l. length (filter (billed events) l)) (take_all c.loop-place.place (sessions events) (omega arith))
+    let counted : c.count.result ≡ length (filter (billed_at events) (range_with_len 0 c.len.result)) =
+    count_from_yields_List _ _ c.count.ensures.ran (YieldsList-from_filter _ (billed_at events) (YieldsList-from_range 0 c.len.result c.len.result c.filter.ensures.source (omega arith)) c.filter.ensures.closure (λ x b q k. search rules)) in
+    counted ∙ ap (λ n. length (filter (billed_at events) (range_with_len 0 n))) c.len.ensures ∙ places_billed events

@@ -1,15 +1,7 @@
-use Rattle.std.proofs.Common.{get_or}
+use Rattle.std.proofs.Common.{rules}
 use Rattle.ledger.specs.Contents.{events_in}
-use Rattle.ledger.specs.Held.{sessions}
-use Rattle.statement.proofs.Told.{open_told, whole_told}
+use Rattle.statement.proofs.Told.{billed_told}
 use Rattle.statement.proofs.rows.is_billed.Goals as goal
 
-pub returns-in-Billed : goal.returns-in-Billed
-returns-in-Billed c =
-    let events = events_in c.args.ledger.now in
-    λ d. whole_told events (get_or (sessions events) c.args.place d) _ _ c.in-Billed.is (c.in-Some.ensures.1 d)
-
-pub returns-in-Open : goal.returns-in-Open
-returns-in-Open c =
-    let events = events_in c.args.ledger.now in
-    λ d. open_told events (get_or (sessions events) c.args.place d) _ _ c.in-Open.is (c.in-Some.ensures.1 d)
+pub returns : goal.returns
+returns c = billed_told (events_in c.args.ledger.now) c.args.place c.row.result c.is_some_and.result _ c.row.ensures c.is_some_and.ensures (λ f p. search rules)

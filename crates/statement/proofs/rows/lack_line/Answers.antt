@@ -1,15 +1,33 @@
-use Rattle.std.proofs.Common.{◌∷◌, ◌++◌, take, decimal, ap, ◌∙◌}
-use Rattle.statement.proofs.Told.{lack_chained}
+use Rattle.std.proofs.Common.{◌≤◌, [], ◌∷◌, ◌++◌, length, decimal, ap, ◌∙◌, arith, length-append, length-take}
+use Rattle.decimal.proofs.Plain.{length_most}
+use Rattle.draft.proofs.Chains.{Pushed, pushed_length, pushed_text}
+use Rattle.draft.proofs.Chains.Pushed.{none, then}
+use Rattle.draft.specs.Growing.{text_in}
+use Rattle.statement.proofs.Told.{lack_laid, lack_pieces}
 use Rattle.statement.specs.Lines.{stretches_text}
 use Rattle.statement.proofs.rows.lack_line.Goals as goal
+use Rattle.statement.proofs.rows.lack_line.Goals.{After-push-2}
+
+-- up to the stretches
+opening : (c : After-push-2) → length (text_in c.push-2.new.self) ≤ 45
+opening c =
+    let chain : Pushed (text_in c.push_field.new.line) ((32 ∷ []) ∷ c.end_word.result.now ∷ (32 ∷ []) ∷ []) (text_in c.push-2.new.self) =
+    then c.push.ensures.taken (then c.push_text.ensures.taken (then c.push-2.ensures.taken none)) in
+    omega (arith, pushed_length chain (omega arith))
+
+pub push_stretches-requires : goal.push_stretches-requires
+push_stretches-requires c =
+    omega (arith, opening (goal.at.push_stretches-requires c).After-push-2, ap length c.as_slice.ensures, length-take c.args.lack.missing.count c.args.lack.missing.runs)
 
 pub returns : goal.returns
 returns c =
-    lack_chained c.args.lack.id c.args.lack.count _ _ _ _ _ _ _ _ _
-    c.begin-line.ensures.text
-    (c.push_field.ensures.text ∙ ap (λ n. take c.begin-line.result.len c.begin-line.result.bytes ++ (32 ∷ decimal n)) c.from.ensures)
-    c.push.ensures.text
-    (c.push_text.ensures.text ∙ ap (λ l. take c.push.new.self.len c.push.new.self.bytes ++ l) c.end_word.ensures.text)
-    c.push-2.ensures.text
-    (c.push_stretches.ensures.text ∙ ap (λ l. take c.push-2.new.self.len c.push-2.new.self.bytes ++ stretches_text l) c.as_slice.ensures)
-    c.push-3.ensures.text
+    let front = text_in c.begin-line.result in
+    let count = decimal c.from.result in
+    let stretches = stretches_text c.as_slice.result.now in
+    let chain : Pushed front (lack_pieces count c.end_word.result.now stretches) (text_in c.push-3.new.self) =
+    then (λ _. c.push_field.ensures.text) (then c.push.ensures.taken (then c.push_text.ensures.taken (then c.push-2.ensures.taken (then (λ _. c.push_stretches.ensures.text) (then c.push-3.ensures.taken none))))) in
+    let short : length count ≤ 20 = length_most c.from.result (omega arith) in
+    let few : length c.as_slice.result.now ≤ 16 = omega (arith, ap length c.as_slice.ensures, length-take c.args.lack.missing.count c.args.lack.missing.runs) in
+    pushed_text chain (omega (arith, ap length c.push_stretches.ensures.text, length-append (text_in c.push-2.new.self) stretches, c.push_stretches.ensures.long))
+    ∙ lack_laid front count c.end_word.result.now stretches
+    ∙ (λ i. c.begin-line.ensures.text i ++ (32 ∷ decimal (c.from.ensures i)) ++ (32 ∷ c.end_word.ensures.text i) ++ (32 ∷ stretches_text (c.as_slice.ensures i)) ++ 10 ∷ [])

@@ -1,12 +1,13 @@
-use Rattle.std.proofs.Common.{◌≡◌, ◌+◌, ◌-◌, ◌++◌, length, take, refl, ap, ◌∙◌, subst, ap₂, inr, arith, length-append}
+use Rattle.std.proofs.Common.{◌≡◌, ◌+◌, ◌-◌, ◌++◌, length, refl, ap, ◌∙◌, subst, ap₂, inr, arith, length-append}
 use borrow.Rule.Slice.PartMut.{put_mid}
+use Rattle.draft.specs.Growing.{Stands, text_in}
 use Rattle.ledger.specs.Contents.{events_in}
 use Rattle.ledger.specs.Held.{sessions}
-use Rattle.statement.proofs.Puts.{stands_behind, stands_copy}
+use Rattle.statement.proofs.Puts.{stands_copy, stands_rest}
 use Rattle.statement.proofs.Told.{billed_rows, both_counts, open_rows}
 use Rattle.statement.specs.Lines.{total_line}
-use Rattle.statement.specs.Parts.{rows_text}
-use Rattle.statement.specs.Statement.{Stands, billed_sessions, open_sessions, statement_bytes}
+use Rattle.statement.specs.Parts.{part_lines}
+use Rattle.statement.specs.Statement.{billed_sessions, open_sessions, statement_bytes}
 use Rattle.statement.specs.declared.part.Part.TheVariants.{Billed, Open}
 use Rattle.statement.proofs.writing.write.Goals as goal
 use Rattle.statement.proofs.writing.write.Goals.{After-len-2}
@@ -15,48 +16,50 @@ pub overflow_sub-len : goal.overflow_sub-len
 overflow_sub-len c = omega (arith, both_counts (events_in c.args.ledger.now), c.billed_count-billed.ensures, c.len.ensures)
 
 -- the last line
-total-is : (c : After-len-2) → take c.total_line-total.result.len c.total_line-total.result.bytes ≡ total_line (length (billed_sessions (events_in c.args.ledger.now))) (length (open_sessions (events_in c.args.ledger.now)))
-total-is c =
+total_is : (c : After-len-2) → text_in c.total_line-total.result ≡ total_line (length (billed_sessions (events_in c.args.ledger.now))) (length (open_sessions (events_in c.args.ledger.now)))
+total_is c =
     let events = events_in c.args.ledger.now in
     let others : c.len.result - c.billed_count-billed.result ≡ length (open_sessions events) = omega (arith, both_counts events, c.billed_count-billed.ensures, c.len.ensures) in
     c.total_line-total.ensures ∙ ap₂ total_line c.billed_count-billed.ensures others
 
 -- the three parts are the statement
-bytes-are : (c : After-len-2) → (rows_text (events_in c.args.ledger.now) c.args.price Billed (sessions (events_in c.args.ledger.now)) ++ rows_text (events_in c.args.ledger.now) c.args.price Open (sessions (events_in c.args.ledger.now))) ++ take c.total_line-total.result.len c.total_line-total.result.bytes ≡ statement_bytes (events_in c.args.ledger.now) c.args.price
-bytes-are c =
+bytes_are : (c : After-len-2) → (part_lines (events_in c.args.ledger.now) c.in_ok-price.price.thousandths Billed ++ part_lines (events_in c.args.ledger.now) c.in_ok-price.price.thousandths Open) ++ text_in c.total_line-total.result ≡ statement_bytes (events_in c.args.ledger.now) c.args.price
+bytes_are c =
     let events = events_in c.args.ledger.now in
-    λ i. (billed_rows events c.args.price (sessions events) i ++ open_rows events c.args.price (sessions events) i) ++ total-is c i
+    let price = c.in_ok-price.price.thousandths in
+    (λ i. (billed_rows events price (sessions events) i ++ open_rows events price (sessions events) i) ++ total_is c i)
+    ∙ ap (statement_bytes events) c.in_ok-price.ensures
 
 -- and as long
 size_is : (c : After-len-2) → c.rows_size.result + c.rows_size-2.result + c.len-2.result ≡ length (statement_bytes (events_in c.args.ledger.now) c.args.price)
 size_is c =
     let events = events_in c.args.ledger.now in
-    let bills = rows_text events c.args.price Billed (sessions events) in
-    let lacks = rows_text events c.args.price Open (sessions events) in
-    omega (arith, ap length (bytes-are c), length-append (bills ++ lacks) (take c.total_line-total.result.len c.total_line-total.result.bytes), length-append bills lacks, c.rows_size.ensures.size, c.rows_size-2.ensures.size, c.len-2.ensures.0)
+    let bills = part_lines events c.in_ok-price.price.thousandths Billed in
+    let lacks = part_lines events c.in_ok-price.price.thousandths Open in
+    omega (arith, ap length (bytes_are c), length-append (bills ++ lacks) (text_in c.total_line-total.result), length-append bills lacks, c.rows_size.ensures.size, c.rows_size-2.ensures.size, c.len-2.ensures.value)
 
 pub returns-then-size-out : goal.returns-then-size-out
-returns-then-size-out c = (refl, inr (refl, omega arith, omega (arith, size_is (goal.at.returns-then-size-out c).After-len-2)))
+returns-then-size-out c = (refl, inr (refl, omega (arith, c.in_ok-price.ensures), omega (arith, size_is (goal.at.returns-then-size-out c).After-len-2)))
 
 pub returns : goal.returns
 returns c =
     let at = (goal.at.returns c).After-len-2 in
     let events = events_in c.args.ledger.now in
-    let bills = rows_text events c.args.price Billed (sessions events) in
-    let lacks = rows_text events c.args.price Open (sessions events) in
-    let total = take c.total_line-total.result.len c.total_line-total.result.bytes in
-    let size = c.rows_size.result + c.rows_size-2.result + c.len-2.result in
-    let copied : c.copy_from_slice.new.self ≡ total = c.copy_from_slice.ensures.after ∙ c.text.ensures in
-    let both : Stands (bills ++ lacks) c.args.out.now c.write_rows-end.new.out =
-    stands_behind bills lacks c.args.out.now c.write_rows-bills.new.out c.write_rows-end.new.out c.write_rows-bills.result
-    c.write_rows-bills.ensures.text (omega (arith, c.write_rows-bills.ensures.end)) c.write_rows-end.ensures.text in
-    let all : Stands ((bills ++ lacks) ++ c.copy_from_slice.new.self) c.args.out.now (put_mid c.write_rows-end.result (size - c.write_rows-end.result) c.write_rows-end.new.out c.copy_from_slice.new.self) =
-    stands_copy (bills ++ lacks) c.args.out.now c.write_rows-end.new.out c.copy_from_slice.new.self c.write_rows-end.result size both
-    (omega (arith, c.write_rows-end.ensures.end, c.write_rows-bills.ensures.end, length-append bills lacks))
-    (omega (arith, ap length copied, c.len-2.ensures.0, c.write_rows-end.ensures.end, c.write_rows-bills.ensures.end, c.rows_size.ensures.size, c.rows_size-2.ensures.size))
+    let bills = part_lines events c.in_ok-price.price.thousandths Billed in
+    let lacks = part_lines events c.in_ok-price.price.thousandths Open in
+    let rows = c.rows_size.result + c.rows_size-2.result in
+    let size = rows + c.len-2.result in
+    let copied : c.copy_from_slice.new.self ≡ text_in c.total_line-total.result = c.copy_from_slice.ensures.after ∙ c.text.ensures in
+    let behind = put_mid c.write_rows-bills.result (length c.write_rows-bills.new.out - c.write_rows-bills.result) c.write_rows-bills.new.out c.write_rows.new.out in
+    let both : Stands (bills ++ lacks) c.args.out.now behind =
+    stands_rest bills lacks c.args.out.now c.write_rows-bills.new.out c.write_rows.new.out c.write_rows-bills.result
+    c.write_rows-bills.ensures.text c.write_rows-bills.ensures.end c.write_rows.ensures.text in
+    let all : Stands ((bills ++ lacks) ++ c.copy_from_slice.new.self) c.args.out.now (put_mid rows (size - rows) behind c.copy_from_slice.new.self) =
+    stands_copy (bills ++ lacks) c.args.out.now behind c.copy_from_slice.new.self rows size both
+    (omega (arith, c.rows_size.ensures.size, c.rows_size-2.ensures.size, length-append bills lacks))
+    (omega (arith, ap length copied, c.len-2.ensures.value))
     (omega arith) in (
-      omega arith,
+      omega (arith, c.in_ok-price.ensures),
       size_is at,
-      subst (λ l. Stands l c.args.out.now (put_mid c.write_rows-end.result (size - c.write_rows-end.result) c.write_rows-end.new.out c.copy_from_slice.new.self))
-          (ap (λ l. (bills ++ lacks) ++ l) copied ∙ bytes-are at) all,
+      subst (λ l. Stands l c.args.out.now (put_mid rows (size - rows) behind c.copy_from_slice.new.self)) (ap (λ l. (bills ++ lacks) ++ l) copied ∙ bytes_are at) all,
     )

@@ -1,13 +1,8 @@
 use Rattle.std.proofs.Common.{◌≤◌, length, take, sym, refl, ◌∙◌, arith}
-use Rattle.runs.proofs.Tables.{between_found, too_many, touches_found}
+use Rattle.runs.proofs.Tables.{between_found, too_many}
 use Rattle.runs.specs.Places.{Between}
 use Rattle.runs.proofs.table.RunTable.add.Goals as goal
 use Rattle.runs.proofs.table.RunTable.add.Goals.{Joined-else-place-self, else-place-self-via-then-place-self+else-not-begins_after, else-place-self-via-else-place-self}
-
-pub extend_at-requires : goal.extend_at-requires
-extend_at-requires c =
-    let fits : c.args.self.now.count ≤ length c.args.self.now.runs = omega arith in
-    touches_found _ _ _ fits _ c.place-place.ensures c.if-place-self.true (sym c.begins_after.ensures ∙ c.if-not-begins_after.true)
 
 -- no run touches the number
 apart : (c : Joined-else-place-self) → Between (take c.args.self.now.count c.args.self.now.runs) c.args.number c.place-place.result
@@ -22,7 +17,4 @@ apart c =
 pub returns-then-self-eq-MOST_RUNS : goal.returns-then-self-eq-MOST_RUNS
 returns-then-self-eq-MOST_RUNS c =
     let at = (goal.at.returns-then-self-eq-MOST_RUNS c).Joined-else-place-self in
-    (refl, too_many _ _ _ (omega arith) _ c.if-self-eq-MOST_RUNS.true c.args.self.now.rising (apart at))
-
-pub open_at-requires : goal.open_at-requires
-open_at-requires c = (omega arith, apart (goal.at.open_at-requires c).Joined-else-place-self)
+    (refl, refl, too_many _ _ _ (omega arith) _ c.if-self-eq-MOST_RUNS.true c.args.self.now.rising (apart at))

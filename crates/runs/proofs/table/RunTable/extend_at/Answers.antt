@@ -1,13 +1,10 @@
-use Rattle.std.proofs.Common.{◌≡◌, suc, ◌+◌, ◌-◌, ◌<◌, true, leb, get_or, take, set, sym, ◌∙◌, subst, arith, length-set, length-take}
+use Rattle.std.proofs.Common.{◌≡◌, suc, ◌+◌, ◌-◌, ◌<◌, true, leb, get_or, take, set, sym, ◌∙◌, subst, arith, length-set}
 use borrow.Rule.Slice.PartMut.{put_mid, same_len_mid}
 use Rattle.runs.proofs.Tables.{joined_table, some_run, widened_table}
 use Rattle.runs.specs.Stretches.{Stretches, covers, with_number}
 use Rattle.runs.specs.declared.table.RunTable.{RunTable}
 use Rattle.runs.proofs.table.RunTable.extend_at.Goals as goal
 use Rattle.runs.proofs.table.RunTable.extend_at.Goals.{After-rotate_left, After-widen, else-next-end-via-then-next-end+else-not-begins_after, else-next-end-via-else-next-end}
-
-pub offset_bounds-self-place : goal.offset_bounds-self-place
-offset_bounds-self-place c = omega (arith, c.requires.inside, length-take c.args.self.now.count c.args.self.now.runs)
 
 -- the next run stays apart
 widened : (c : After-widen) → (c.args.place + 1 < c.args.self.now.count → leb (suc (suc (get_or (set c.args.self.now.runs c.args.place c.widen.new.self) c.args.place some_run).last)) (get_or (set c.args.self.now.runs c.args.place c.widen.new.self) (c.args.place + 1) some_run).first ≡ true) → Stretches (with_number (covers (take c.args.self.now.count c.args.self.now.runs)) c.args.number) (take c.args.self.now.count (set c.args.self.now.runs c.args.place c.widen.new.self))

@@ -1,16 +1,18 @@
-use Rattle.std.proofs.Common.{take, sym, subst, arith}
-use Rattle.runs.proofs.Tables.{all_total, in_order, more_total}
+use Rattle.std.proofs.Common.{sym, subst, arith}
+use Rattle.runs.proofs.Tables.{all_total, in_order, more_total, rise, some_run}
 use Rattle.runs.specs.Stretches.{Counts}
 use Rattle.runs.proofs.table.RunTable.size.Goals as goal
 
 pub size-numbers-requires : goal.size-numbers-requires
-size-numbers-requires c = in_order _ _ (omega arith) c.args.self.now.rising _ c.loop-i-test.true
+size-numbers-requires c = in_order _ (rise c.args.self.now _ c.as_slice-run-items.ensures) _ some_run c.loop-run-test.true
 
-pub overflow_add-numbers : goal.overflow_add-numbers
-overflow_add-numbers c = omega arith
-
-pub loop-i-preserved : goal.loop-i-preserved
-loop-i-preserved c = (omega (arith, more_total c.args.self.now.runs c.args.self.now.count (omega arith) c.args.self.now.rising c.loop-i.i c.loop-i-test.true), omega arith)
+pub loop-run-preserved : goal.loop-run-preserved
+loop-run-preserved c = record {
+  counted = omega (arith, more_total _ (rise c.args.self.now _ c.as_slice-run-items.ensures) _ some_run c.loop-run-test.true);
+  bound = omega arith;
+}
 
 pub returns : goal.returns
-returns c = subst (Counts (take c.args.self.now.count c.args.self.now.runs)) (sym c.loop-i.invariant.0) (all_total _ _ (omega arith) c.args.self.now.rising _ c.loop-i-test.false)
+returns c =
+    subst (λ l. Counts l c.loop-run.numbers) c.as_slice-run-items.ensures
+    (subst (Counts c.as_slice-run-items.result.now) (sym c.loop-run.invariant.counted) (all_total _ (rise c.args.self.now _ c.as_slice-run-items.ensures) _ c.loop-run-test.false))
