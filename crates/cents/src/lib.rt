@@ -3,7 +3,6 @@
 
 ghost use Rattle.cents.specs.Cents.{Charges};
 
-use event::LARGEST_REGISTER;
 use refusal::Refusal;
 
 mod price;
@@ -14,9 +13,5 @@ pub use price::{LARGEST_PRICE, Price};
 pub fn cents(watt_hours: u64, price: u64) -> Result<u64, Refusal>
     ensures { Charges watt_hours price result }
 {
-    let price = Price::new(price)?;
-    if watt_hours > LARGEST_REGISTER {
-        return Err(Refusal::OutOfRange);
-    }
-    Ok(price.cents(watt_hours))
+    Price::new(price)?.cents(watt_hours)
 }

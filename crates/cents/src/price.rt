@@ -1,9 +1,9 @@
 // A price that is in its range.
 ghost use Rattle.std.specs.Prelude.{◌≡◌, ◌≤◌, ◌<◌, MatchResult};
-ghost use Rattle.cents.specs.Cents.{cents_for, largest_price};
-ghost use Rattle.event.specs.Lawful.{largest_register};
+ghost use Rattle.cents.specs.Cents.{Charges, largest_price};
 ghost use Rattle.refusal.specs.declared.Refusal.TheVariants.{OutOfRange};
 
+use event::LARGEST_REGISTER;
 use refusal::Refusal;
 
 // in thousandths of a currency unit for each kWh
@@ -27,10 +27,12 @@ impl Price {
     }
 
     // The cents for this many Wh, to the nearest, a half up.
-    pub fn cents(self, watt_hours: u64) -> u64
-        requires { watt_hours ≤ largest_register }
-        ensures { result ≡ cents_for watt_hours self.thousandths }
+    pub fn cents(self, watt_hours: u64) -> Result<u64, Refusal>
+        ensures { Charges watt_hours self.thousandths result }
     {
-        (watt_hours * self.thousandths + 5_000) / 10_000
+        if watt_hours > LARGEST_REGISTER {
+            return Err(Refusal::OutOfRange);
+        }
+        Ok((watt_hours * self.thousandths + 5_000) / 10_000)
     }
 }

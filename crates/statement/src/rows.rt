@@ -19,7 +19,7 @@ fn bill_line(bill: Bill, price: Price) -> Draft
     requires { bill.energy ≤ largest_register }
     ensures { text_in result ≡ billed_line price.thousandths bill.id bill.energy }
 {
-    let cents = price.cents(bill.energy);
+    let cents = price.cents(bill.energy).unwrap();
     let mut line = begin(b'B', bill.id);
     push_field(&mut line, bill.energy);
     push_field(&mut line, cents);
