@@ -3,7 +3,7 @@ ghost use Rattle.std.specs.Prelude.{◌≡◌, ◌≤◌, length};
 
 #[derive(Clone, Copy)]
 pub struct Draft {
-    // Kept: a buffer with its length, since a draft is Copy, and an ArrayVec is not.
+    // Kept: a buffer with its length, since a draft is Copy, an ArrayVec is not, and an ArrayString takes only text.
     pub(crate) bytes: [u8; 1024],
     // how many are written
     pub(crate) len: usize,

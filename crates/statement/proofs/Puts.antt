@@ -1,35 +1,8 @@
 -- Bytes put behind those in use. Assumes nothing.
-use Rattle.std.proofs.Common.{◌≡◌, ℕ, ◌+◌, ◌-◌, ◌<◌, ◌≤◌, List, [], ◌∷◌, ◌++◌, length, get_or, take, drop, sym, refl, ap, ◌∙◌, ap₂, arith, length-drop}
+use Rattle.std.proofs.Common.{◌≡◌, ℕ, ◌+◌, ◌-◌, ◌≤◌, List, [], ◌++◌, length, take, drop, sym, refl, ap, ◌∙◌, ap₂, arith, length-drop}
 use borrow.Rule.Slice.PartMut.{Post-is, post_of, put_mid}
-use Rattle.runs.specs.declared.run.Run.{Run}
-use Rattle.statement.specs.Lines.{stretch_text, stretches_text}
 use Rattle.statement.specs.Statement.{Stands}
-use Rattle.std.specs.List.{flat_map}
-use Rattle.std.proofs.lemmas.List.{append_assoc, append-nil, drop_at, drop-drop, drop_all, drop_more, length-append, take_at, flat_map_more, take_all, take_more, take_rest}
-
--- one text behind another
-pub chained : (base x y : List ℕ) {first second : List ℕ} → first ≡ base ++ x → second ≡ first ++ y → second ≡ base ++ (x ++ y)
-chained base x y p q = q ∙ ap (λ l. l ++ y) p ∙ append_assoc base x y
-
--- one stretch more, behind a comma
-pub comma_chained : (base : List ℕ) (rs : List Run) (i : ℕ) (d : Run) {a b c : List ℕ} → i < length rs → a ≡ base ++ flat_map (λ q. 44 ∷ stretch_text q) (take i rs) → b ≡ a ++ 44 ∷ [] → c ≡ b ++ stretch_text (get_or rs i d) → c ≡ base ++ flat_map (λ q. 44 ∷ stretch_text q) (take (i + 1) rs)
-comma_chained base rs i d {a} h p q s =
-    chained a (44 ∷ []) (stretch_text (get_or rs i d)) q s
-    ∙ ap (λ l. l ++ (44 ∷ stretch_text (get_or rs i d))) p
-    ∙ flat_map_more (λ q. 44 ∷ stretch_text q) base (take i rs) (get_or rs i d)
-    ∙ ap (λ l. base ++ flat_map (λ q. 44 ∷ stretch_text q) l) (sym (take_more rs i d h))
-
--- no stretch
-pub none_chained : (base : List ℕ) (rs : List Run) {b : List ℕ} → length rs < 1 → b ≡ base ++ 45 ∷ [] → b ≡ base ++ stretches_text rs
-none_chained base [] h p = p
-none_chained base (r ∷ rs) h p = absurd (omega arith)
-
--- all the stretches
-pub stretches_chained : (base : List ℕ) (rs : List Run) (i : ℕ) (d : Run) {a b : List ℕ} → 0 < length rs → length (take (length rs - 1) (drop 1 rs)) ≤ i → a ≡ base ++ stretch_text (get_or rs 0 d) → b ≡ a ++ flat_map (λ q. 44 ∷ stretch_text q) (take i (take (length rs - 1) (drop 1 rs))) → b ≡ base ++ stretches_text rs
-stretches_chained base rs i d some all p q =
-    chained base (stretch_text (get_or rs 0 d)) (flat_map (λ q. 44 ∷ stretch_text q) (take i (take (length rs - 1) (drop 1 rs)))) p q
-    ∙ ap (λ l. base ++ (stretch_text (get_or rs 0 d) ++ flat_map (λ q. 44 ∷ stretch_text q) l)) (take_all i (take (length rs - 1) (drop 1 rs)) all ∙ take_rest rs 1)
-    ∙ ap (λ l. base ++ stretches_text l) (sym (drop_more rs 0 d some))
+use Rattle.std.proofs.lemmas.List.{append_assoc, append-nil, drop_at, drop-drop, drop_all, length-append, take_at, take_rest}
 
 -- a text copied behind what stands
 pub stands_copy : (text before out more : List ℕ) (end next : ℕ) → Stands text before out → end ≡ length text → next ≡ end + length more → next ≤ length before → Stands (text ++ more) before (put_mid end (next - end) out more)

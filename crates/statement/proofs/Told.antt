@@ -1,7 +1,7 @@
 -- What is found in a row is what the statement has of the session. Assumes nothing.
 use Rattle.std.proofs.Common.{◌≡◌, ℕ, zero, suc, ◌+◌, ◌<◌, ◌≤◌, Bool, true, false, cond, not, List, [], ◌∷◌, ◌++◌, length, get_or, take, filter, Some, None, Option, MatchOption, slice_get, sym, refl, ap, ◌∙◌, ⊎_elim, arith}
 use Rattle.std.proofs.lemmas.List.Filters.{length-filter_both}
-use Rattle.std.proofs.lemmas.List.{append_assoc, flat_map_more, length-append, take_all, take_more}
+use Rattle.std.proofs.lemmas.List.{append_assoc, flat_map_more, length-append, take_more}
 use Rattle.std.proofs.lemmas.Bool.{cases_Bool, cond-false, cond-true}
 use Rattle.std.specs.List.{flat_map, range_with_len, sum_by}
 use Rattle.std.specs.Option.{option_map_or}
@@ -64,9 +64,6 @@ module _ (events : List Event) (place : ℕ) where
     pub text_told : (f : Found) → Looks events place (Some f) → found_text price part f ≡ text_at events price part place
     text_told f at = told events (get_or (sessions events) place some_id) price part f (at.1 some_id) ∙ sym (ap (λ o. option_map_or (part_text events price part) o []) (slice_get-get_or (sessions events) place some_id at.0))
 
-    pub no_text_told : length (sessions events) ≤ place → [] ≡ text_at events price part place
-    no_text_told past = sym (ap (λ o. option_map_or (part_text events price part) o []) (slice_get_past (sessions events) place past))
-
 -- the line of what a session lacks, piece by piece
 abbrev pub lack_pieces : (count end stretches : List ℕ) → List (List ℕ)
 lack_pieces count end stretches = (32 ∷ count) ∷ (32 ∷ []) ∷ end ∷ (32 ∷ []) ∷ stretches ∷ (10 ∷ []) ∷ []
@@ -88,9 +85,6 @@ module _ (events : List Event) (price : ℕ) (part : Part) where
 
   pub size_more : (place : ℕ) → place < length (sessions events) → length (rows_text events price part (take (place + 1) (sessions events))) ≡ length (rows_text events price part (take place (sessions events))) + length (text_at events price part place)
   size_more place h = ap length (rows_more place h) ∙ length-append (rows_text events price part (take place (sessions events))) (text_at events price part place)
-
-  pub rows_all : (place : ℕ) → length (sessions events) ≤ place → rows_text events price part (take place (sessions events)) ≡ part_lines events price part
-  rows_all place h = ap (rows_text events price part) (take_all place (sessions events) h)
 
   -- the first rows take no more bytes than all
   pub rows_below : (ss : List TransactionId) (i : ℕ) → length (rows_text events price part (take i ss)) ≤ length (rows_text events price part ss)

@@ -1,23 +1,11 @@
 use Rattle.std.proofs.Common.{◌≤◌, [], ◌∷◌, ◌++◌, length, decimal, ap, ◌∙◌, arith, length-append, length-take}
 use Rattle.decimal.proofs.Plain.{length_most}
-use Rattle.draft.proofs.Chains.{Pushed, pushed_length, pushed_text}
+use Rattle.draft.proofs.Chains.{Pushed, pushed_text}
 use Rattle.draft.proofs.Chains.Pushed.{none, then}
 use Rattle.draft.specs.Growing.{text_in}
 use Rattle.statement.proofs.Told.{lack_laid, lack_pieces}
 use Rattle.statement.specs.Lines.{stretches_text}
 use Rattle.statement.proofs.rows.lack_line.Goals as goal
-use Rattle.statement.proofs.rows.lack_line.Goals.{After-push-2}
-
--- up to the stretches
-opening : (c : After-push-2) → length (text_in c.push-2.new.self) ≤ 45
-opening c =
-    let chain : Pushed (text_in c.push_field.new.line) ((32 ∷ []) ∷ c.end_word.result.now ∷ (32 ∷ []) ∷ []) (text_in c.push-2.new.self) =
-    then c.push.ensures.taken (then c.push_text.ensures.taken (then c.push-2.ensures.taken none)) in
-    omega (arith, pushed_length chain (omega arith))
-
-pub push_stretches-requires : goal.push_stretches-requires
-push_stretches-requires c =
-    omega (arith, opening (goal.at.push_stretches-requires c).After-push-2, ap length c.as_slice.ensures, length-take c.args.lack.missing.count c.args.lack.missing.runs)
 
 pub returns : goal.returns
 returns c =

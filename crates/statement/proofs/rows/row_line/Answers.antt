@@ -1,7 +1,7 @@
 use Rattle.std.proofs.Common.{get_or, ◌∙◌}
 use Rattle.ledger.specs.Contents.{events_in}
 use Rattle.ledger.specs.Held.{sessions}
-use Rattle.statement.proofs.Told.{no_text_told, payable, some_id, text_told}
+use Rattle.statement.proofs.Told.{payable, some_id, text_told}
 use Rattle.statement.proofs.rows.row_line.Goals as goal
 
 pub found_line-requires : goal.found_line-requires
@@ -11,6 +11,3 @@ found_line-requires c =
 
 pub returns-in-Some : goal.returns-in-Some
 returns-in-Some c = c.found_line.ensures ∙ text_told (events_in c.args.ledger.now) c.args.place c.args.price.thousandths c.args.part c.in-Some.found c.in-Some.ensures
-
-pub returns-in-None : goal.returns-in-None
-returns-in-None c = c.new.ensures ∙ no_text_told (events_in c.args.ledger.now) c.args.place c.args.price.thousandths c.args.part c.in-None.ensures

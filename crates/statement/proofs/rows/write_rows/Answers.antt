@@ -1,16 +1,13 @@
-use Rattle.std.proofs.Common.{◌≡◌, ◌+◌, ◌-◌, ◌≤◌, ◌++◌, length, take, sym, refl, ap, ◌∙◌, subst, arith, rules}
+use Rattle.std.proofs.Common.{◌≡◌, ◌+◌, ◌-◌, ◌≤◌, ◌++◌, length, take, sym, ap, ◌∙◌, subst, arith, rules}
 use borrow.Rule.Slice.PartMut.{put_mid}
 use Rattle.draft.specs.Growing.{Stands}
 use Rattle.ledger.specs.Contents.{events_in}
 use Rattle.ledger.specs.Held.{sessions}
 use Rattle.statement.proofs.Puts.{stands_copy}
-use Rattle.statement.proofs.Told.{rows_all, rows_below, rows_more, size_more}
+use Rattle.statement.proofs.Told.{rows_below, rows_more, size_more}
 use Rattle.statement.specs.Parts.{rows_text, text_at}
 use Rattle.statement.proofs.rows.write_rows.Goals as goal
 use Rattle.statement.proofs.rows.write_rows.Goals.{After-len}
-
-pub loop-place-init : goal.loop-place-init
-loop-place-init c = record { far = refl; text = record { fits = omega arith; written = refl } }
 
 -- where the line ends
 next_is : (c : After-len) → c.loop-place.end + c.len.result ≡ length (rows_text (events_in c.args.ledger.now) c.args.price.thousandths c.args.part (take (c.loop-place.place + 1) (sessions (events_in c.args.ledger.now))))
@@ -22,9 +19,6 @@ within : (c : After-len) → c.loop-place.end + c.len.result ≤ length c.args.o
 within c =
     let events = events_in c.args.ledger.now in
     omega (arith, next_is c, rows_below events c.args.price.thousandths c.args.part (sessions events) (c.loop-place.place + 1), c.requires)
-
-pub overflow_add-next : goal.overflow_add-next
-overflow_add-next c = let h = within c in search rules
 
 pub slice_bounds-copy_from_slice-end : goal.slice_bounds-copy_from_slice-end
 slice_bounds-copy_from_slice-end c =
@@ -46,12 +40,4 @@ loop-place-preserved c =
           c.loop-place.invariant.far
           (omega (arith, c.len.ensures.value, ap length (c.copy_from_slice.ensures.after ∙ c.text.ensures)))
           (within at));
-    }
-
-pub returns : goal.returns
-returns c =
-    let all = rows_all (events_in c.args.ledger.now) c.args.price.thousandths c.args.part c.loop-place.place (omega arith) in
-    record {
-      end = c.loop-place.invariant.far ∙ ap length all;
-      text = subst (λ l. Stands l c.args.out.now c.loop-place.out) all c.loop-place.invariant.text;
     }
