@@ -15,13 +15,13 @@ pub struct MessageId {
 
 // A number at the front of bytes, and what follows the hyphen after it.
 #[derive(Clone, Copy)]
-pub struct Lead<'a> {
+pub(crate) struct Lead<'a> {
     pub number: u64,
     pub rest: &'a [u8],
 }
 
 // N digits and a hyphen.
-pub fn take_lead<const N: usize>(text: &[u8]) -> Option<Lead<'_>>
+pub(crate) fn take_lead<const N: usize>(text: &[u8]) -> Option<Lead<'_>>
     requires { (0 < N) × (N ≤ 18) }
     ensures { MatchOption result (NoLead N text.now) (λ lead. Leads N text.now lead.number lead.rest.now) }
 {
@@ -34,7 +34,7 @@ pub fn take_lead<const N: usize>(text: &[u8]) -> Option<Lead<'_>>
 }
 
 // N digits and no more.
-pub fn take_last<const N: usize>(text: &[u8]) -> Option<u64>
+pub(crate) fn take_last<const N: usize>(text: &[u8]) -> Option<u64>
     requires { (0 < N) × (N ≤ 18) }
     ensures { MatchOption result (NoDigits N text.now) (Digits N text.now) }
 {
