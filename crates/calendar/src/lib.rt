@@ -61,7 +61,8 @@ impl Civil {
             && self.second <= 59
     }
 
-    // The civil time at a second.
+    // The civil time at a second. Kept: `Civil::at(second)` says what the number is, which a `From` would not, and asks that
+    // it is no later than the last.
     fn at(second: u32) -> Civil
         requires { second ≤ last_second }
         ensures lawful { Lawful result }

@@ -1,6 +1,8 @@
 // How many texts there were, and how many of them were as expected.
 ghost use Rattle.std.specs.Prelude.{◌≡◌, ◌+◌, ◌-◌, ◌^◌, ◌≤◌, cond, MatchOption};
 
+use std::fmt;
+
 #[derive(Clone, Copy)]
 pub struct Count {
     pub texts: u64,
@@ -37,5 +39,16 @@ impl Count {
         ensures { result ≡ self.texts - self.expected }
     {
         self.texts - self.expected
+    }
+}
+
+impl fmt::Display for Count {
+    fn fmt<W: fmt::Write>(&self, f: &mut fmt::Formatter<W>) -> fmt::Result {
+        let others = self.others();
+        write!(
+            f,
+            "{} texts, {} as expected, {others} not",
+            self.texts, self.expected
+        )
     }
 }

@@ -57,17 +57,6 @@ fn print_group<W: Write>(out: &mut W, name: &[u8], group: Count) -> io::Result<(
     writeln!(out)
 }
 
-fn print_totals<W: Write>(out: &mut W, all: Count) -> io::Result<()> {
-    writeln!(out)?;
-    writeln!(
-        out,
-        "{} texts, {} as expected, {} not",
-        all.texts,
-        all.expected,
-        all.others()
-    )
-}
-
 fn print_misfit<W: Write>(out: &mut W, number: usize) -> io::Result<()> {
     writeln!(out, "line {number}: not a line of a table")
 }
@@ -132,6 +121,7 @@ pub fn report<W: Write>(out: &mut W, heap: Global, table: &[u8]) -> anyhow::Resu
         tally = report_line(out, heap, tally, number, line)?;
     }
     print_group(out, name, tally.group)?;
-    print_totals(out, tally.all)?;
+    writeln!(out)?;
+    writeln!(out, "{}", tally.all)?;
     Ok(tally.all)
 }

@@ -7,6 +7,7 @@ use ledger::{Ledger, MOST_EVENTS, MOST_ROWS, Row, Taken};
 use refusal::Refusal;
 use split::Pieces;
 use std::alloc::Global;
+use std::fmt;
 use std::io;
 use std::io::Write;
 
@@ -15,6 +16,14 @@ struct Tally {
     frames: u64,
     held: u64,
     repeats: u64,
+}
+
+impl fmt::Display for Tally {
+    fn fmt<W: fmt::Write>(&self, f: &mut fmt::Formatter<W>) -> fmt::Result {
+        writeln!(f, "frames read:      {:>10}", self.frames)?;
+        writeln!(f, "events held:      {:>10}", self.held)?;
+        write!(f, "repeats:          {:>10}", self.repeats)
+    }
 }
 
 const NO_SESSION: TransactionId = TransactionId {
@@ -72,9 +81,7 @@ fn print_report<W: Write>(out: &mut W, tally: &Tally, refused: &[Refused]) -> io
     for one in refused {
         writeln!(out, "{one}")?;
     }
-    writeln!(out, "frames read:      {:>10}", tally.frames)?;
-    writeln!(out, "events held:      {:>10}", tally.held)?;
-    writeln!(out, "repeats:          {:>10}", tally.repeats)?;
+    writeln!(out, "{tally}")?;
     writeln!(out, "refused:          {:>10}", refused.len())
 }
 

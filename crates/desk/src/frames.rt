@@ -5,7 +5,7 @@ use split::Pieces;
 use std::io;
 use std::io::Write;
 
-// What the frame says, in plain words.
+// What the frame says, in plain words. Kept: printed here and by no `Display`, since the timestamp is bytes.
 fn print_transmission<W: Write>(
     out: &mut W,
     line: usize,

@@ -11,41 +11,25 @@ pub trait Pile: Channel<Item = Transmission> {
     fn bottom(&self) -> (&[Transmission], &[Transmission]);
 
     // What a spool in the pile holds, the oldest first.
-    fn held(&self) -> &[Transmission];
+    fn held(&self) -> &[Transmission] {
+        &[]
+    }
 
     // The layer numbers, the top first.
-    fn write_layers<W: Write>(&self, out: &mut W) -> io::Result<()>;
-}
-
-fn write_layer<C: Channel, W: Write>(_channel: &C, out: &mut W) -> io::Result<()> {
-    write!(out, "layer {}", C::LAYER)
+    fn write_layers<W: Write>(&self, out: &mut W) -> io::Result<()> {
+        write!(out, "layer {}", Self::LAYER)
+    }
 }
 
 impl<'a> Pile for Ring<'a, Transmission> {
     fn bottom(&self) -> (&[Transmission], &[Transmission]) {
         self.waiting()
     }
-
-    fn held(&self) -> &[Transmission] {
-        &[]
-    }
-
-    fn write_layers<W: Write>(&self, out: &mut W) -> io::Result<()> {
-        write_layer(self, out)
-    }
 }
 
 impl<'a> Pile for Hall<'a, Transmission> {
     fn bottom(&self) -> (&[Transmission], &[Transmission]) {
         self.waiting()
-    }
-
-    fn held(&self) -> &[Transmission] {
-        &[]
-    }
-
-    fn write_layers<W: Write>(&self, out: &mut W) -> io::Result<()> {
-        write_layer(self, out)
     }
 }
 
@@ -59,8 +43,7 @@ impl<C: Pile> Pile for Repeater<C> {
     }
 
     fn write_layers<W: Write>(&self, out: &mut W) -> io::Result<()> {
-        write_layer(self, out)?;
-        write!(out, " above ")?;
+        write!(out, "layer {} above ", Self::LAYER)?;
         self.below.write_layers(out)
     }
 }
@@ -76,8 +59,7 @@ impl<C: Pile> Pile for Spool<C> {
     }
 
     fn write_layers<W: Write>(&self, out: &mut W) -> io::Result<()> {
-        write_layer(self, out)?;
-        write!(out, " above ")?;
+        write!(out, "layer {} above ", Self::LAYER)?;
         self.below.write_layers(out)
     }
 }
