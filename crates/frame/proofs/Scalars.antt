@@ -1,13 +1,12 @@
 -- Strings, numbers and objects by their bytes. Assumes nothing.
-use Rattle.std.proofs.Common.{◌≡◌, ℕ, ◌-◌, true, List, [], ◌∷◌, length, get_or, take, drop, codes, sym, refl, ap, ◌∙◌, subst, append-nil, arith, length-append}
+use Rattle.std.proofs.Common.{◌≡◌, ℕ, ◌-◌, true, List, [], ◌∷◌, length, get_or, take, drop, sym, refl, ap, ◌∙◌, subst, append-nil, arith, length-append}
 use Rattle.frame.specs.Walks.{quoted}
 use Rattle.frame.proofs.Looks.{unquoted}
 use Rattle.frame.proofs.Openings.{object_by, opening, opens, string_by}
 use Rattle.json_text.specs.Grammar.{Json, Membs, Value}
-use Rattle.json_text.specs.Grammar.Json.{jnull, jtrue, jfalse, jnumber, jstring, jarray, jobject}
+use Rattle.json_text.specs.Grammar.Json.{jnumber, jstring, jobject}
 use Rattle.json_text.specs.Grammar.Value.{is_number, is_string}
 use Rattle.std.proofs.lemmas.List.{take_at}
-use Rattle.std.proofs.lemmas.Bool.{false≢true}
 
 -- a value's first byte
 pub first_opens : (t : Json) (v : List ℕ) → Value t v → opening t (get_or v 0 0) ≡ true
@@ -27,22 +26,8 @@ string_by_bytes t s v v-is e =
     let by = string_by t (subst (λ b. opening t b ≡ true) (ap (λ l. get_or l 0 0) e) (first_opens t v v-is)) in
     by.1 ∙ ap jstring (unquoted by.0 s (sym (string_bytes_are t by.0 v v-is by.1) ∙ e))
 
-number_by : (t : Json) → opening t 50 ≡ true → (n : List ℕ) × (t ≡ jnumber n)
-number_by jnull h = absurd (false≢true h)
-number_by jtrue h = absurd (false≢true h)
-number_by jfalse h = absurd (false≢true h)
-number_by (jnumber n) h = (n, refl)
-number_by (jstring s) h = absurd (false≢true h)
-number_by (jarray es) h = absurd (false≢true h)
-number_by (jobject ms) h = absurd (false≢true h)
-
 pub number_bytes_are : (t : Json) (n v : List ℕ) → Value t v → t ≡ jnumber n → v ≡ n
 number_bytes_are t n v v-is e = number_of n v (subst (λ u. Value u v) e v-is)
-
-pub two_by_bytes : (t : Json) (v : List ℕ) → Value t v → v ≡ codes "2" → t ≡ jnumber (codes "2")
-two_by_bytes t v v-is e =
-    let by = number_by t (subst (λ b. opening t b ≡ true) (ap (λ l. get_or l 0 0) e) (first_opens t v v-is)) in
-    by.1 ∙ ap jnumber (sym (number_bytes_are t by.0 v v-is by.1) ∙ e)
 
 pub object_by_first : (t : Json) (v : List ℕ) → Value t v → get_or v 0 0 ≡ 123 → (ms : Membs) × (t ≡ jobject ms)
 object_by_first t v v-is e = object_by t (subst (λ b. opening t b ≡ true) e (first_opens t v v-is))

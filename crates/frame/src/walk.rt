@@ -69,6 +69,8 @@ fn first_member<'a>(s: &'a [u8]) -> ControlFlow<&'a [u8], &'a [u8]>
 }
 
 // Collects what it wants of the members of an object, one after the other.
+// Kept: that what follows is no longer than what was given stands in each contract of a walk. It is about two slices, so
+// no type can hold it, and by it a walk ends over any bytes.
 pub trait Collects<'a> {
     // What began as the first is the second where an object has these members and those are left.
     ghost so_far: { Self → Self → Membs → Membs → Type 0 };

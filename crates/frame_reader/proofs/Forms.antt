@@ -1,18 +1,16 @@
 -- Words, numbers and literals by their bytes. Assumes nothing.
-use Rattle.std.proofs.Common.{◌≡◌, ℕ, ◌-◌, ◌^◌, ◌<◌, ◌≤◌, min, Bool, true, false, List, [], ◌∷◌, ◌++◌, length, get_or, take, Some, None, Ok, Err, codes, decimal, Option, ◌≢◌, Result, sym, refl, ap, ◌∙◌, subst, arith, length-append, MatchOption, MatchResult}
+use Rattle.std.proofs.Common.{◌≡◌, ℕ, ◌-◌, ◌^◌, ◌<◌, ◌≤◌, min, true, List, [], ◌∷◌, ◌++◌, length, get_or, take, Ok, Err, codes, decimal, Result, sym, refl, ap, ◌∙◌, subst, arith, length-append, MatchOption, MatchResult}
 use Rattle.calendar.specs.Calendar.{Denotes, NoSecond}
 use Rattle.decimal.proofs.Plain.{decimal_plain, plain_decimal, value_plain}
 use Rattle.decimal.proofs.Widths.{length_fixed}
 use Rattle.decimal.specs.Decimal.{PlainText, fixed, value}
 use Rattle.event.specs.Lawful.{largest_register}
-use Rattle.frame_reader.specs.Frame.{flag}
 use Rattle.frame_reader.specs.Values.{NoNumber, NoTime, TimeIn}
 use Rattle.frame.proofs.Openings.{opening}
 use Rattle.frame.proofs.Scalars.{first_opens, number_bytes_are}
 use Rattle.ids.specs.Ids.{id_text, message_id_text}
 use Rattle.json_text.specs.Grammar.{Json, Value}
 use Rattle.json_text.specs.Grammar.Json.{jnull, jtrue, jfalse, jnumber, jstring, jarray, jobject}
-use Rattle.json_text.specs.Grammar.Value.{is_true, is_false}
 use Rattle.refusal.specs.declared.Refusal.{Refusal}
 use Rattle.refusal.specs.declared.Refusal.TheVariants.{BadValue}
 use Rattle.std.proofs.lemmas.List.{take_at}
@@ -43,16 +41,6 @@ true_by_bytes t v is e = true_by t (subst (λ l. opening t (get_or l 0 0) ≡ tr
 
 pub false_by_bytes : (t : Json) (v : List ℕ) → Value t v → v ≡ codes "false" → t ≡ jfalse
 false_by_bytes t v is e = false_by t (subst (λ l. opening t (get_or l 0 0) ≡ true) e (first_opens t v is))
-
-true_of : (v : List ℕ) → Value jtrue v → v ≡ codes "true"
-true_of v is_true = refl
-
-false_of : (v : List ℕ) → Value jfalse v → v ≡ codes "false"
-false_of v is_false = refl
-
-pub no_flag : (t : Json) (v : List ℕ) → Value t v → (v ≡ codes "true" → ⊥) → (v ≡ codes "false" → ⊥) → (b : Bool) → t ≡ flag b → ⊥
-no_flag t v is a b true e = a (true_of v (subst (λ u. Value u v) e is))
-no_flag t v is a b false e = b (false_of v (subst (λ u. Value u v) e is))
 
 -- only a number begins with a digit
 number_by_digit : (t : Json) (b : ℕ) → 48 ≤ b → b ≤ 57 → opening t b ≡ true → (n : List ℕ) × (t ≡ jnumber n)
@@ -110,9 +98,3 @@ pub time_cases : (tree : Json) (text : List ℕ) (r : Result ℕ Refusal) → tr
 time_cases tree text (Ok time) is d = record { written = text; is = is; denotes = d }
 time_cases tree text (Err e) is d = λ time t.
     d.1 time (subst (λ s. Denotes s time) (same_string (sym t.is ∙ is)) t.denotes)
-
--- a string that is a name, or none
-pub named_cases : {K : Type 0} (named : K → List ℕ) (tree : Json) (text : List ℕ) (r : Option K) → tree ≡ jstring text → MatchOption r ((kind : K) → text ≢ named kind) (λ kind. text ≡ named kind)
-    → MatchOption r ((kind : K) → tree ≢ jstring (named kind)) (λ kind. tree ≡ jstring (named kind))
-named_cases named tree text None is none = λ kind e. none kind (same_string (sym is ∙ e))
-named_cases named tree text (Some kind) is e = is ∙ ap jstring e

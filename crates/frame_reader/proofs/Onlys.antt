@@ -8,7 +8,7 @@ use Rattle.frame_reader.specs.Members.{chain, element_under}
 use Rattle.frame.specs.Members.{members_of, only_of, under}
 use Rattle.frame_reader.specs.Walks.{NoObject}
 use Rattle.frame.proofs.Fours.{size}
-use Rattle.json_text.specs.Grammar.{Elems, Json, Membs, Value}
+use Rattle.json_text.specs.Grammar.{Elems, Json, Membs}
 use Rattle.json_text.specs.Grammar.Elems.{no_elem, elem}
 use Rattle.json_text.specs.Grammar.Json.{jnull, jtrue, jfalse, jnumber, jstring, jarray, jobject}
 use Rattle.refusal.specs.declared.Refusal.{Refusal}
@@ -71,10 +71,6 @@ some (Some a) = true
 
 pub not_both : {A : Type 0} {o : Option A} {a : A} → o ≡ None → o ≡ Some a → ⊥
 not_both e f = false≢true (ap some (sym e ∙ f))
-
-pub value_some : (tree : Option Json) (o : Option (Bor (List ℕ))) (v : Bor (List ℕ)) → o ≡ Some v → ValueIf tree o → (t : Json) × (tree ≡ Some t) × Value t v.now
-value_some None o v e h = absurd (subst (ValueIf None) e h)
-value_some (Some t) o v e h = (t, refl, subst (ValueIf (Some t)) e h)
 
 pub value_if : (name : List ℕ) (ms : Membs) (o : Option (Bor (List ℕ))) → UnderIf name ms o → ValueIf (under name ms) o
 value_if name ms None e = subst (λ t. ValueIf t None) (sym e) tt

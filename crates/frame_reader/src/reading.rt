@@ -3,11 +3,12 @@ ghost use Rattle.std.specs.Prelude.{◌≡◌, ℕ, ◌≤◌, Bool, List, codes
 ghost use Rattle.event.specs.Lawful.{largest_register};
 ghost use Rattle.event.specs.declared.events.Transmission.{Transmission as Sent};
 ghost use Rattle.frame_reader.specs.Fields.{FieldsOf, MeterOf, SampleOf, ValueIf};
-ghost use Rattle.frame_reader.specs.Frame.{Says};
+ghost use Rattle.frame_reader.specs.Frame.{Says, measurand_text};
 ghost use Rattle.frame_reader.specs.Reading.{EventTold, FlagIs, MeasuresRegister, NoEvent, NoRegister, NoSampled, RegisterIs, SampleTells, SmallRegister};
 ghost use Rattle.frame.specs.Members.{under};
 ghost use Rattle.ids.specs.Ids.{MessageWritten};
-ghost use Rattle.json_text.specs.Grammar.{Json, Membs};
+ghost use Rattle.json_text.specs.Grammar.{Json, Membs, Value};
+ghost use Rattle.json_text.specs.Grammar.Json.{jstring};
 
 use crate::fields::{Fields, Sample};
 use crate::values::{is_front, named, number, time, truth};
@@ -22,14 +23,18 @@ fn flag(value: Option<&[u8]>) -> Option<bool>
     value.map_or(Some(false), truth)
 }
 
+// The value is the register's measurand.
+fn is_register(value: &[u8]) -> bool
+    ensures { (tree : Json) → Value tree value.now → Decides result (tree ≡ jstring measurand_text) }
+{
+    is_string(value, b"\"Energy.Active.Import.Register\"")
+}
+
 // The measurand is the register's, or missing.
 fn measures_register(value: Option<&[u8]>) -> bool
     ensures { (tree : Option Json) → ValueIf tree value.entry → Decides result (MeasuresRegister tree) }
 {
-    match value {
-        Some(value) => is_string(value, b"\"Energy.Active.Import.Register\""),
-        None => true,
-    }
+    value.is_none_or(is_register)
 }
 
 // The register that a sample tells.

@@ -1,7 +1,5 @@
 -- The pieces that are pushed make up the compact text. Assumes nothing.
 use Rattle.std.proofs.Common.{◌≡◌, ℕ, List, [], ◌∷◌, ◌++◌, length, Some, codes, decimal, sym, refl, ap, ◌∙◌, append_assoc, append-nil}
-use Rattle.calendar.specs.Calendar.{Denotes, text_of}
-use Rattle.calendar.specs.declared.Civil.{Civil}
 use Rattle.decimal.specs.Decimal.{fixed}
 use Rattle.draft.proofs.Chains.{whole}
 use Rattle.event.specs.declared.events.Event.{Event}
@@ -23,10 +21,6 @@ id_length station session = refl
 pub message_id_length : (station session number attempt : ℕ) → length (message_id_text station session number attempt) ≡ 22
 unfolding fixed
 message_id_length station session number attempt = refl
-
-civil_length : (c : Civil) → length (text_of c) ≡ 20
-unfolding text_of fixed
-civil_length c = refl
 
 -- the members of every payload
 abbrev pub event_pieces : (kind stamp reason number offline id : List ℕ) → List (List ℕ)
@@ -81,6 +75,3 @@ frame_laid stamp t =
     let around : List ℕ → List ℕ = λ l. codes "[2,\"" ++ (message_id t ++ (codes "\",\"TransactionEvent\",{" ++ l)) in
     ap around (sym (append_assoc (members (payload_with stamp t.event no_memb)) (other_members others) (codes "}]")) ∙ ap (λ l. l ++ codes "}]") (event_before stamp t.event others))
     ∙ frame_around (message_id t) (payload stamp t.event)
-
-pub stamp_length : (stamp : List ℕ) (s : ℕ) → Denotes stamp s → length stamp ≡ 20
-stamp_length stamp s d = ap length d.written ∙ civil_length d.civil

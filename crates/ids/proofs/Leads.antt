@@ -1,9 +1,9 @@
 -- A number and a hyphen at the front of bytes. Assumes nothing.
-use Rattle.std.proofs.Common.{◌≡◌, ℕ, ◌<◌, ◌≤◌, List, ◌∷◌, ◌++◌, length, take, drop, Some, None, Option, MatchOption, sym, ap, ◌∙◌, subst, arith, length-append, take-append-drop, length-take}
+use Rattle.std.proofs.Common.{◌≡◌, ℕ, ◌<◌, ◌≤◌, List, ◌∷◌, ◌++◌, length, take, drop, sym, ap, ◌∙◌, subst, arith, length-append}
 use Rattle.std.proofs.lemmas.List.{take_at, drop_at, append_assoc}
-use Rattle.decimal.proofs.Widths.{length_fixed, same_from_fixed, text_of_width, value_from_text, width_of_text}
+use Rattle.decimal.proofs.Widths.{length_fixed, same_from_fixed, text_of_width, value_from_text}
 use Rattle.decimal.specs.Decimal.{FixedText, fixed}
-use Rattle.ids.specs.Ids.{Digits, Leads, NoDigits, MessageWritten, Written}
+use Rattle.ids.specs.Ids.{Digits, Leads, MessageWritten, Written}
 use Rattle.ids.specs.declared.message.MessageId.{MessageId}
 
 -- the parts that w digits, a hyphen and what follows are of the bytes
@@ -21,23 +21,9 @@ placed w text n rest wide l =
       hyphen = ap (drop w) l.bytes ∙ drop_at (fixed w n) (45 ∷ rest) w long;
     }
 
-pub leads : (w : ℕ) (text : List ℕ) (n : ℕ) (rest : List ℕ) → Placed w text n rest → Leads w text n rest
-leads w text n rest p =
-    let front = width_of_text w (take w text) n (length-take w text ∙ omega (arith, p.long)) p.digits in
-    record { below = front.0; bytes = sym (take-append-drop w text) ∙ ap (λ l. take w text ++ l) p.hyphen ∙ ap (λ l. l ++ 45 ∷ rest) front.1 }
-
 -- digits alone
 pub all_digits : (w : ℕ) (text : List ℕ) (n : ℕ) → (0 < w) × (w ≤ 18) → Digits w text n → (length text ≡ w) × FixedText text n
 all_digits w text n wide d = (ap length d.bytes ∙ length_fixed w n, subst (λ t. FixedText t n) (sym d.bytes) (text_of_width w n wide.0 wide.1 d.below))
-
-digits : (w : ℕ) (text : List ℕ) (n : ℕ) → length text ≡ w → FixedText text n → Digits w text n
-digits w text n long t =
-    let is = width_of_text w text n long t in
-    record { below = is.0; bytes = is.1 }
-
-pub digits_read : (w : ℕ) (text : List ℕ) (r : Option ℕ) → (0 < w) × (w ≤ 18) → length text ≡ w → MatchOption r ((n : ℕ) → FixedText text n → ⊥) (FixedText text) → MatchOption r (NoDigits w text) (Digits w text)
-digits_read w text None wide long none = λ n d. none n (all_digits w text n wide d).1
-digits_read w text (Some n) wide long t = digits w text n long t
 
 -- the number and the rest are the only ones
 pub same_lead : (w : ℕ) (text : List ℕ) (m n : ℕ) (r s : List ℕ) → Leads w text m r → Leads w text n s → r ≡ s
@@ -63,27 +49,12 @@ pub attempt_last : (text : List ℕ) (id : MessageId) → MessageWritten text id
 attempt_last text id m a b n r s u five eight four =
     record { below = m.attempt_below; bytes = same_lead 4 s n id.number u _ four (number_leads text id m a b r s five eight) }
 
-pub whole_message : (text : List ℕ) (a b n k : ℕ) (r s u : List ℕ) → Leads 5 text a r → Leads 8 r b s → Leads 4 s n u → Digits 2 u k → MessageWritten text (record { station = a; session = b; number = n; attempt = k })
-whole_message text a b n k r s u five eight four end = record {
-  station_below = five.below;
-  session_below = eight.below;
-  number_below = four.below;
-  attempt_below = end.below;
-  bytes =
-      five.bytes
-      ∙ ap (λ l. fixed 5 a ++ 45 ∷ l) (eight.bytes ∙ ap (λ l. fixed 8 b ++ 45 ∷ l) (four.bytes ∙ ap (λ l. fixed 4 n ++ 45 ∷ l) end.bytes))
-      ∙ sym (append_assoc (fixed 5 a) (45 ∷ fixed 8 b) (45 ∷ (fixed 4 n ++ 45 ∷ fixed 2 k)));
-}
-
 -- the parts of a transaction id
 pub id_leads : (text : List ℕ) (station session : ℕ) → Written text station session → Leads 5 text station (fixed 8 session)
 id_leads text s n w = record { below = w.station_below; bytes = w.bytes }
 
 pub session_last : (text : List ℕ) (station session : ℕ) → Written text station session → (a : ℕ) (r : List ℕ) → Leads 5 text a r → Digits 8 r session
 session_last text s n w a r five = record { below = w.session_below; bytes = same_lead 5 text a s r _ five (id_leads text s n w) }
-
-pub whole_id : (text : List ℕ) (a b : ℕ) (r : List ℕ) → Leads 5 text a r → Digits 8 r b → Written text a b
-whole_id text a b r five eight = record { station_below = five.below; session_below = eight.below; bytes = five.bytes ∙ ap (λ l. fixed 5 a ++ 45 ∷ l) eight.bytes }
 
 pub same_lead_number : (w : ℕ) (text : List ℕ) (m n : ℕ) (r s : List ℕ) → Leads w text m r → Leads w text n s → m ≡ n
 same_lead_number w text m n r s a b =

@@ -46,6 +46,7 @@ pub(crate) fn take_last<const N: usize>(text: &[u8]) -> Option<u64>
 
 impl MessageId {
     // Five digits, a hyphen, eight digits, a hyphen, four digits, a hyphen and two digits; nothing for any other text.
+    // Kept: there is one reason for nothing, and `TryFrom` would want a type for it, as `Option` does not.
     pub fn read(text: &[u8]) -> Option<MessageId>
         ensures { MatchOption result (NoMessage text.now) (MessageWritten text.now) }
     {

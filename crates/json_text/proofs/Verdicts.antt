@@ -149,16 +149,6 @@ pub record Reached (text left : List ℕ) (s : State) : Type 0 where
   pub runs : run begin (take (length text - length left) text) ≡ s
   pub shallow : ShallowTo text (length text - length left)
 
-pub none_read : (text : List ℕ) → Reached text text begin
-none_read text =
-    let e : 0 ≡ length text - length text = omega arith in
-    record {
-      bound = omega arith;
-      is = ap (λ n. drop n text) e;
-      runs = sym (ap (λ n. run begin (take n text)) e);
-      shallow = λ n h. subst (λ k. Shallow (run begin (take k text))) (let z : 0 ≡ n = omega (arith, e) in z) (omega arith);
-    }
-
 -- n bytes more
 pub reached_on : (text left : List ℕ) (s to : State) (n : ℕ) (after : List ℕ) → Reached text left s → Passes s n left to → n ≤ length left → after ≡ drop n left → Reached text after to
 reached_on text left s to n after r p room is =

@@ -1,10 +1,7 @@
 use Rattle.std.proofs.Common.{sym, subst, arith}
 use Rattle.frame.specs.Walks.{Behind, LeftOf}
-use Rattle.frame.proofs.Looks.{Within, falls, fewer}
+use Rattle.frame.proofs.Looks.{Within, fewer}
 use Rattle.frame.proofs.walk.collect.Goals as goal
-
-pub loop-left-init : goal.loop-left-init
-loop-left-init g c = (c.first_member-left.ensures.bound, λ start ms end o far. (ms, c.first_member-left.ensures.left ms end o, far))
 
 pub loop-left-preserved : goal.loop-left-preserved
 loop-left-preserved g c = (
@@ -15,10 +12,6 @@ loop-left-preserved g c = (
       let v = c.take.ensures.through end start ms h.0 t h.2 in
       (t.others, c.next_member-left.ensures.left t.others end (subst (λ l. Behind t.others l end) (sym v.1) t.more), v.0),
 )
-
-pub loop-left-smaller : goal.loop-left-smaller
-loop-left-smaller g c =
-    falls _ c.loop-left.left c.next_member-left.result c.in-Continue.member c.in-Continue.is (omega (arith, c.take_name.ensures.bound, c.take.ensures.bound)) c.next_member-left.ensures.shorter
 
 pub returns-in-Break : goal.returns-in-Break
 returns-in-Break g c = record {

@@ -11,9 +11,3 @@ returns-in-Some c = record {
       absurd (two_firsts _ 34 125 _ _ refl f.name_front found)) o;
   bound = omega (arith, c.in-Some.ensures.shorter);
 }
-
-pub returns-in-None : goal.returns-in-None
-returns-in-None c = record {
-  left = λ ms end o. ⊎_elim (λ p. absurd (c.in-None.ensures.found end p.1)) (λ ahead. ahead) o;
-  bound = omega arith;
-}

@@ -1,14 +1,7 @@
 use Rattle.std.proofs.Common.{arith}
 use Rattle.frame_reader.proofs.Fronts.{first_cases}
-use Rattle.frame.proofs.Fronts.{inside_begun, shorter_from}
+use Rattle.frame.proofs.Fronts.{shorter_from}
 use Rattle.frame_reader.proofs.meter.first_object.Goals as goal
-
-pub returns-in_err-first : goal.returns-in_err-first
-returns-in_err-first c = record {
-  opened = λ tree behind b. rw c.from_residual.ensures (λ ms es is.
-      let i = inside_begun tree _ c.args.s.now behind b is in c.in_err-first.ensures.found i.inner i.bracket);
-  shorter = rw c.from_residual.ensures tt;
-}
 
 pub returns : goal.returns
 returns c = record {

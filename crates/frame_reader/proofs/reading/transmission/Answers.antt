@@ -1,9 +1,8 @@
-use Rattle.std.proofs.Common.{◌≡◌, sym, refl, ◌∙◌, subst}
+use Rattle.std.proofs.Common.{◌≡◌, sym, ◌∙◌, subst}
 use Rattle.event.specs.Lawful.{LawfulTransmission}
 use Rattle.frame_reader.proofs.Same.{message_of, same_told, small, written_of}
 use Rattle.frame_reader.proofs.reading.transmission.Goals as goal
 use Rattle.ids.proofs.Leads.{same_message}
-use Rattle.ids.specs.Ids.{message_id_text}
 use Rattle.std.proofs.lemmas.Bool.{true≢false}
 
 pub returns-in_err-message : goal.returns-in_err-message
@@ -15,15 +14,6 @@ returns-in_err-event c = λ payload f.
     rw c.from_residual-in_err-event.ensures (λ t s.
     let n = same_message _ _ _ (written_of _ payload t s) c.in_ok-message.ensures in
     c.in_err-event.ensures payload f t.event s.lawful.event (record { station = n.station; session = n.session; number = n.number; tells = s.tells }))
-
-pub returns-then-is_lawful : goal.returns-then-is_lawful
-returns-then-is_lawful c = λ payload f.
-    let told = (c.in_ok-event.ensures payload f).0 in
-    record {
-      message = c.in_ok-message.ensures.bytes ∙ sym (λ i. message_id_text (told.station i) (told.session i) (told.number i) c.in_ok-message.message.attempt);
-      tells = told.tells;
-      lawful = c.if-is_lawful.ensures.0 refl;
-    }
 
 pub returns-else-is_lawful : goal.returns-else-is_lawful
 returns-else-is_lawful c = λ payload f t s.

@@ -1,8 +1,7 @@
-use Rattle.std.proofs.Common.{sym, ◌∙◌}
-use Rattle.frame_reader.proofs.Forms.{false_by_bytes, no_flag, true_by_bytes}
+use Rattle.std.proofs.Common.{◌∙◌}
+use Rattle.frame_reader.proofs.Forms.{false_by_bytes, true_by_bytes}
 use Rattle.frame_reader.proofs.values.truth.Goals as goal
 use Rattle.std.proofs.lemmas.Slice.Eq.{slice_eq-Decides}
-use Rattle.std.proofs.lemmas.Bool.{both_ways}
 use Rattle.std.proofs.lemmas.Bool.Decides.{Decides-eqb}
 
 pub returns-then-eq : goal.returns-then-eq
@@ -10,9 +9,3 @@ returns-then-eq c = λ tree v. true_by_bytes tree _ v ((slice_eq-Decides Decides
 
 pub returns-then-eq-2 : goal.returns-then-eq-2
 returns-then-eq-2 c = λ tree v. false_by_bytes tree _ v ((slice_eq-Decides Decides-eqb _ _ _ c.eq-else-eq.ensures).0 c.if-eq-2.true ∙ c.as_slice-else-eq.ensures)
-
-pub returns-else-eq-2 : goal.returns-else-eq-2
-returns-else-eq-2 c = λ tree v.
-    no_flag tree _ v
-    (λ e. both_ways c.eq.result c.if-eq.false ((slice_eq-Decides Decides-eqb _ _ _ c.eq.ensures).1 (e ∙ sym c.as_slice.ensures)))
-    (λ e. both_ways c.eq-else-eq.result c.if-eq-2.false ((slice_eq-Decides Decides-eqb _ _ _ c.eq-else-eq.ensures).1 (e ∙ sym c.as_slice-else-eq.ensures)))

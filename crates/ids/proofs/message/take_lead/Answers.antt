@@ -1,9 +1,8 @@
-use Rattle.std.proofs.Common.{◌≡◌, ◌∷◌, length, get_or, drop, sym, ap, ◌∙◌, subst, arith, ltb-false, ltb-true}
+use Rattle.std.proofs.Common.{◌≡◌, ◌∷◌, length, get_or, sym, ap, ◌∙◌, subst, arith, ltb-true}
 use Rattle.decimal.specs.Decimal.{FixedText}
-use Rattle.ids.proofs.Leads.{leads, placed}
+use Rattle.ids.proofs.Leads.{placed}
 use Rattle.ids.proofs.message.take_lead.Goals as goal
 use Rattle.ids.proofs.message.take_lead.Goals.{in_default-via-then-behind-lt1, in_default-via-else-behind-lt1+in_default-1}
-use Rattle.std.proofs.lemmas.List.{drop_more, take_rest}
 
 pub returns-in_err-digits : goal.returns-in_err-digits
 returns-in_err-digits g c =
@@ -21,14 +20,3 @@ pub returns-in_err-number : goal.returns-in_err-number
 returns-in_err-number g c =
     rw c.from_residual-in_err-number.ensures
     (λ n rest l. c.in_err-number.ensures n (subst (λ l. FixedText l n) (sym c.in_ok-digits.ensures.cases.0) (placed _ _ n rest c.requires l).digits))
-
-pub returns : goal.returns
-returns g c =
-    let behind = c.in_ok-digits.behind.now in
-    let front : behind ≡ get_or behind 0 0 ∷ drop 1 behind = drop_more behind 0 0 (omega (arith, ltb-false)) in
-    let hyphen : get_or behind 0 0 ≡ 45 = omega arith in
-    leads _ _ _ _ (record {
-      long = omega (arith, ltb-false, c.in_ok-digits.ensures.cases.2);
-      digits = subst (λ l. FixedText l c.in_ok-number.number) c.in_ok-digits.ensures.cases.0 c.in_ok-number.ensures;
-      hyphen = sym c.in_ok-digits.ensures.cases.1 ∙ front ∙ ap (λ b. b ∷ drop 1 behind) hyphen ∙ ap (λ l. 45 ∷ l) (sym (take_rest behind 1));
-    })

@@ -1,14 +1,11 @@
-use Rattle.std.proofs.Common.{drop, sym, refl, ap, ◌∙◌, subst, inr, arith}
+use Rattle.std.proofs.Common.{drop, sym, refl, ap, ◌∙◌, inr, arith}
 use Rattle.json_text.specs.Machine.{accepts}
 use Rattle.json_text.specs.Verdict.{state_of}
 use Rattle.json_text.proofs.Unique.{one_tree}
-use Rattle.json_text.proofs.Verdicts.{Reached, all_read, is_json, none_read, not_json, reached_on, reached_step, shallow_scanner, stopped_at}
+use Rattle.json_text.proofs.Verdicts.{all_read, is_json, not_json, reached_on, reached_step, shallow_scanner, stopped_at}
 use Rattle.json_text.proofs.judge.check.Goals as goal
 use Rattle.std.proofs.lemmas.List.{take_rest}
 use Rattle.std.proofs.lemmas.Result.{err_from_is_err_and}
-
-pub loop-left-init : goal.loop-left-init
-loop-left-init c = subst (Reached c.args.text.now c.args.text.now) (sym c.new-scanner.ensures) (none_read c.args.text.now)
 
 pub returns-in_err-step : goal.returns-in_err-step
 returns-in_err-step c =

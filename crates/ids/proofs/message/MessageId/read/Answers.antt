@@ -1,8 +1,5 @@
-use Rattle.ids.proofs.Leads.{attempt_last, number_leads, session_leads, station_leads, whole_message}
+use Rattle.ids.proofs.Leads.{attempt_last, number_leads, session_leads}
 use Rattle.ids.proofs.message.MessageId.read.Goals as goal
-
-pub returns-in_err-station : goal.returns-in_err-station
-returns-in_err-station c = rw c.from_residual.ensures (λ id m. c.in_err-station.ensures _ _ (station_leads _ id m))
 
 pub returns-in_err-session : goal.returns-in_err-session
 returns-in_err-session c =
@@ -18,6 +15,3 @@ pub returns-in_err-take_last : goal.returns-in_err-take_last
 returns-in_err-take_last c =
     rw c.from_residual-in_err-take_last.ensures
     (λ id m. c.in_err-take_last.ensures id.attempt (attempt_last _ id m _ _ _ _ _ _ c.in_ok-station.ensures c.in_ok-session.ensures c.in_ok-number.ensures))
-
-pub returns : goal.returns
-returns c = whole_message _ _ _ _ _ _ _ _ c.in_ok-station.ensures c.in_ok-session.ensures c.in_ok-number.ensures c.in_ok-take_last.ensures
