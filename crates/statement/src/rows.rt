@@ -63,13 +63,49 @@ fn found_line(found: Found, price: Price, part: Part) -> Draft
     }
 }
 
-// What the row at the place gives to the part; nothing where there is no row.
-fn row_line(ledger: &Ledger<'_>, place: usize, price: Price, part: Part) -> Draft
-    ensures { text_in result ≡ text_at (events_in ledger.now) price.thousandths part place }
-{
-    match ledger.row(place) {
-        Some(found) => found_line(found, price, part),
-        None => Draft::new(),
+// The lines of one part of a statement.
+#[derive(Clone, Copy)]
+pub(crate) struct Lines<'l, 'm> {
+    pub(crate) ledger: &'l Ledger<'m>,
+    pub(crate) price: Price,
+    pub(crate) part: Part,
+}
+
+impl<'l, 'm> Lines<'l, 'm> {
+    // What the row at the place gives to the part; nothing where there is no row.
+    fn line(&self, place: usize) -> Draft
+        ensures { text_in result ≡ text_at (events_in self.now.ledger.now) self.now.price.thousandths self.now.part place }
+    {
+        match self.ledger.row(place) {
+            Some(found) => found_line(found, self.price, self.part),
+            None => Draft::new(),
+        }
+    }
+
+    // How many bytes they have.
+    pub(crate) fn size(&self) -> usize
+        ensures size { result ≡ length (part_lines (events_in self.now.ledger.now) self.now.price.thousandths self.now.part) }
+        ensures bound { result ≤ 1024 * 1024 }
+    {
+        (0..self.ledger.len())
+            .map(|place| self.line(place).len())
+            .sum()
+    }
+
+    // Writes them to the beginning of the buffer, which has room for them; says where they end.
+    pub(crate) fn write(&self, out: &mut [u8]) -> usize
+        requires { length (part_lines (events_in self.now.ledger.now) self.now.price.thousandths self.now.part) ≤ length out.old }
+        ensures end { result ≡ length (part_lines (events_in self.now.ledger.now) self.now.price.thousandths self.now.part) }
+        ensures text { Stands (part_lines (events_in self.now.ledger.now) self.now.price.thousandths self.now.part) out.old out.new }
+    {
+        let mut end = 0;
+        for place in 0..self.ledger.len() {
+            let line = self.line(place);
+            let next = end + line.len();
+            out[end..next].copy_from_slice(line.text());
+            end = next;
+        }
+        end
     }
 }
 
@@ -89,32 +125,6 @@ pub(crate) fn billed_count(ledger: &Ledger<'_>) -> usize
     (0..ledger.len())
         .filter(|place| is_billed(ledger, *place))
         .count()
-}
-
-// How many bytes the lines of the part have.
-pub(crate) fn rows_size(ledger: &Ledger<'_>, price: Price, part: Part) -> usize
-    ensures size { result ≡ length (part_lines (events_in ledger.now) price.thousandths part) }
-    ensures bound { result ≤ 1024 * 1024 }
-{
-    (0..ledger.len())
-        .map(|place| row_line(ledger, place, price, part).len())
-        .sum()
-}
-
-// Writes the lines of the part to the beginning of the buffer, which has room for them; says where they end.
-pub(crate) fn write_rows(ledger: &Ledger<'_>, price: Price, part: Part, out: &mut [u8]) -> usize
-    requires { length (part_lines (events_in ledger.now) price.thousandths part) ≤ length out.old }
-    ensures end { result ≡ length (part_lines (events_in ledger.now) price.thousandths part) }
-    ensures text { Stands (part_lines (events_in ledger.now) price.thousandths part) out.old out.new }
-{
-    let mut end = 0;
-    for place in 0..ledger.len() {
-        let line = row_line(ledger, place, price, part);
-        let next = end + line.len();
-        out[end..next].copy_from_slice(line.text());
-        end = next;
-    }
-    end
 }
 
 // `T`, how many rows are billed and how many are open.

@@ -3,7 +3,7 @@ ghost use Rattle.ledger.specs.Contents.{events_in};
 ghost use Rattle.statement.specs.Statement.{Writes};
 
 use crate::part::Part;
-use crate::rows::{billed_count, rows_size, total_line, write_rows};
+use crate::rows::{Lines, billed_count, total_line};
 use cents::Price;
 use ledger::Ledger;
 use refusal::Refusal;
@@ -16,13 +16,22 @@ pub fn write(ledger: &Ledger<'_>, price: u64, out: &mut [u8]) -> Result<usize, R
     let price = Price::new(price)?;
     let billed = billed_count(ledger);
     let total = total_line(billed, ledger.len() - billed);
-    let rows = rows_size(ledger, price, Part::Billed) + rows_size(ledger, price, Part::Open);
+    let bills = Lines {
+        ledger,
+        price,
+        part: Part::Billed,
+    };
+    let lacks = Lines {
+        part: Part::Open,
+        ..bills
+    };
+    let rows = bills.size() + lacks.size();
     let size = rows + total.len();
     if size > out.len() {
         return Err(Refusal::BufferTooSmall);
     }
-    let bills = write_rows(ledger, price, Part::Billed, out);
-    write_rows(ledger, price, Part::Open, &mut out[bills..]);
+    let end = bills.write(out);
+    lacks.write(&mut out[end..]);
     out[rows..size].copy_from_slice(total.text());
     Ok(size)
 }

@@ -31,12 +31,12 @@ bytes_are c =
     ∙ ap (statement_bytes events) c.in_ok-price.ensures
 
 -- and as long
-size_is : (c : After-len-2) → c.rows_size.result + c.rows_size-2.result + c.len-2.result ≡ length (statement_bytes (events_in c.args.ledger.now) c.args.price)
+size_is : (c : After-len-2) → c.size.result + c.size-2.result + c.len-2.result ≡ length (statement_bytes (events_in c.args.ledger.now) c.args.price)
 size_is c =
     let events = events_in c.args.ledger.now in
     let bills = part_lines events c.in_ok-price.price.thousandths Billed in
     let lacks = part_lines events c.in_ok-price.price.thousandths Open in
-    omega (arith, ap length (bytes_are c), length-append (bills ++ lacks) (text_in c.total_line-total.result), length-append bills lacks, c.rows_size.ensures.size, c.rows_size-2.ensures.size, c.len-2.ensures.value)
+    omega (arith, ap length (bytes_are c), length-append (bills ++ lacks) (text_in c.total_line-total.result), length-append bills lacks, c.size.ensures.size, c.size-2.ensures.size, c.len-2.ensures.value)
 
 pub returns-then-size-out : goal.returns-then-size-out
 returns-then-size-out c = (refl, inr (refl, omega (arith, c.in_ok-price.ensures), omega (arith, size_is (goal.at.returns-then-size-out c).After-len-2)))
@@ -47,16 +47,16 @@ returns c =
     let events = events_in c.args.ledger.now in
     let bills = part_lines events c.in_ok-price.price.thousandths Billed in
     let lacks = part_lines events c.in_ok-price.price.thousandths Open in
-    let rows = c.rows_size.result + c.rows_size-2.result in
+    let rows = c.size.result + c.size-2.result in
     let size = rows + c.len-2.result in
     let copied : c.copy_from_slice.new.self ≡ text_in c.total_line-total.result = c.copy_from_slice.ensures.after ∙ c.text.ensures in
-    let behind = put_mid c.write_rows-bills.result (length c.write_rows-bills.new.out - c.write_rows-bills.result) c.write_rows-bills.new.out c.write_rows.new.out in
+    let behind = put_mid c.write-end.result (length c.write-end.new.out - c.write-end.result) c.write-end.new.out c.write.new.out in
     let both : Stands (bills ++ lacks) c.args.out.now behind =
-    stands_rest bills lacks c.args.out.now c.write_rows-bills.new.out c.write_rows.new.out c.write_rows-bills.result
-    c.write_rows-bills.ensures.text c.write_rows-bills.ensures.end c.write_rows.ensures.text in
+    stands_rest bills lacks c.args.out.now c.write-end.new.out c.write.new.out c.write-end.result
+    c.write-end.ensures.text c.write-end.ensures.end c.write.ensures.text in
     let all : Stands ((bills ++ lacks) ++ c.copy_from_slice.new.self) c.args.out.now (put_mid rows (size - rows) behind c.copy_from_slice.new.self) =
     stands_copy (bills ++ lacks) c.args.out.now behind c.copy_from_slice.new.self rows size both
-    (omega (arith, c.rows_size.ensures.size, c.rows_size-2.ensures.size, length-append bills lacks))
+    (omega (arith, c.size.ensures.size, c.size-2.ensures.size, length-append bills lacks))
     (omega (arith, ap length copied, c.len-2.ensures.value))
     (omega arith) in (
       omega (arith, c.in_ok-price.ensures),
