@@ -9,9 +9,12 @@ use std::alloc::Global;
 use std::io;
 use std::io::Write;
 
-// The counts of a group, and of the whole table.
-#[derive(Clone, Copy)]
-struct Tally {
+// A table as it is judged: the group that it is in, and the counts of that and of the whole table so far.
+#[derive(Drop)]
+struct Judging<'o, 't, W> {
+    out: &'o mut W,
+    heap: Global,
+    name: &'t [u8],
     group: Count,
     all: Count,
 }
@@ -23,105 +26,84 @@ fn counted(count: Count, as_expected: bool) -> anyhow::Result<Count> {
         .context("the table has too many texts to be counted")
 }
 
-impl Tally {
-    fn new() -> Tally {
-        Tally {
-            group: Count::new(),
-            all: Count::new(),
+impl<'o, 't, W: Write> Judging<'o, 't, W> {
+    // Nothing where the group has no texts.
+    fn end_group(&mut self) -> io::Result<()> {
+        if self.group.texts == 0 {
+            return Ok(());
         }
+        let Count { texts, expected } = self.group;
+        write!(self.out, "{expected:>5} of {texts:>4}  ")?;
+        self.out.write_all(self.name)?;
+        writeln!(self.out)
     }
 
-    // A group begins.
-    fn in_group(self) -> Tally {
-        Tally {
-            group: Count::new(),
-            all: self.all,
+    fn misfit(&mut self, number: usize) -> io::Result<()> {
+        writeln!(self.out, "line {number}: not a line of a table")
+    }
+
+    // Whether the text is judged as expected.
+    fn judged(&mut self, number: usize, expected: Verdict, written: &[u8]) -> anyhow::Result<bool> {
+        let Some(text) = decode(self.heap, written)? else {
+            self.misfit(number)?;
+            return Ok(false);
+        };
+        let got = judge(text.as_slice());
+        if got == expected {
+            return Ok(true);
         }
+        writeln!(
+            self.out,
+            "line {number}: expected {}, got {}",
+            Word(expected),
+            Word(got)
+        )?;
+        Ok(false)
     }
 
-    fn with(self, as_expected: bool) -> anyhow::Result<Tally> {
-        Ok(Tally {
-            group: counted(self.group, as_expected)?,
-            all: counted(self.all, as_expected)?,
-        })
+    fn count(&mut self, as_expected: bool) -> anyhow::Result<()> {
+        self.group = counted(self.group, as_expected)?;
+        self.all = counted(self.all, as_expected)?;
+        Ok(())
     }
-}
 
-// Nothing where the group has no texts.
-fn print_group<W: Write>(out: &mut W, name: &[u8], group: Count) -> io::Result<()> {
-    if group.texts == 0 {
-        return Ok(());
-    }
-    write!(out, "{:>5} of {:>4}  ", group.expected, group.texts)?;
-    out.write_all(name)?;
-    writeln!(out)
-}
-
-fn print_misfit<W: Write>(out: &mut W, number: usize) -> io::Result<()> {
-    writeln!(out, "line {number}: not a line of a table")
-}
-
-// Whether the text is judged as expected.
-fn report_text<W: Write>(
-    out: &mut W,
-    heap: Global,
-    number: usize,
-    expected: Verdict,
-    written: &[u8],
-) -> anyhow::Result<bool> {
-    let Some(text) = decode(heap, written)? else {
-        print_misfit(out, number)?;
-        return Ok(false);
-    };
-    let got = judge(text.as_slice());
-    if got == expected {
-        return Ok(true);
-    }
-    writeln!(
-        out,
-        "line {number}: expected {}, got {}",
-        Word(expected),
-        Word(got)
-    )?;
-    Ok(false)
-}
-
-// Prints what is wrong with the line, and counts it where it has a text or should have one.
-fn report_line<W: Write>(
-    out: &mut W,
-    heap: Global,
-    tally: Tally,
-    number: usize,
-    line: Option<Line<'_>>,
-) -> anyhow::Result<Tally> {
-    match line {
-        Some(Line::Blank) => Ok(tally),
-        Some(Line::Group(_)) => Ok(tally.in_group()),
-        Some(Line::Text(expected, written)) => {
-            let as_expected = report_text(out, heap, number, expected, written)?;
-            tally.with(as_expected)
-        }
-        None => {
-            print_misfit(out, number)?;
-            tally.with(false)
+    // Prints what is wrong with the line, and counts it where it has a text or should have one.
+    fn line(&mut self, number: usize, line: Option<Line<'t>>) -> anyhow::Result<()> {
+        match line {
+            Some(Line::Blank) => Ok(()),
+            Some(Line::Group(name)) => {
+                self.end_group()?;
+                self.name = name;
+                self.group = Count::new();
+                Ok(())
+            }
+            Some(Line::Text(expected, written)) => {
+                let as_expected = self.judged(number, expected, written)?;
+                self.count(as_expected)
+            }
+            None => {
+                self.misfit(number)?;
+                self.count(false)
+            }
         }
     }
 }
 
 // Prints the report, and tells the counts of the whole table.
 pub fn report<W: Write>(out: &mut W, heap: Global, table: &[u8]) -> anyhow::Result<Count> {
-    let mut tally = Tally::new();
-    let mut name: &[u8] = b"before the first group";
+    let mut judging = Judging {
+        out,
+        heap,
+        name: b"before the first group",
+        group: Count::new(),
+        all: Count::new(),
+    };
     for (number, text) in (1..).zip(Pieces::of(table, b'\n')) {
-        let line = read_line(text);
-        if let Some(Line::Group(next)) = line {
-            print_group(out, name, tally.group)?;
-            name = next;
-        }
-        tally = report_line(out, heap, tally, number, line)?;
+        judging.line(number, read_line(text))?;
     }
-    print_group(out, name, tally.group)?;
-    writeln!(out)?;
-    writeln!(out, "{}", tally.all)?;
-    Ok(tally.all)
+    judging.end_group()?;
+    let all = judging.all;
+    writeln!(judging.out)?;
+    writeln!(judging.out, "{all}")?;
+    Ok(all)
 }

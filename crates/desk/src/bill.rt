@@ -7,9 +7,8 @@ use ledger::{Ledger, MOST_EVENTS, MOST_ROWS, Row, Taken};
 use refusal::Refusal;
 use split::Pieces;
 use std::alloc::Global;
-use std::fmt;
-use std::io;
 use std::io::Write;
+use std::{fmt, io};
 
 #[derive(Clone, Copy, Default)]
 struct Tally {
@@ -25,11 +24,6 @@ impl fmt::Display for Tally {
         write!(f, "repeats:          {:>10}", self.repeats)
     }
 }
-
-const NO_SESSION: TransactionId = TransactionId {
-    station: 0,
-    session: 0,
-};
 
 // Reads the frame, takes its event, and counts it.
 fn take_line(ledger: &mut Ledger<'_>, tally: &mut Tally, line: &[u8]) -> Result<(), Refusal> {
@@ -87,7 +81,7 @@ fn print_report<W: Write>(out: &mut W, tally: &Tally, refused: &[Refused]) -> io
 
 pub fn report<W: Write>(out: &mut W, heap: Global, text: &[u8], price: u64) -> anyhow::Result<()> {
     let mut events = vec![in heap; Event::default(); MOST_EVENTS]?;
-    let mut rows = vec![in heap; Row::new(NO_SESSION); MOST_ROWS]?;
+    let mut rows = vec![in heap; Row::new(TransactionId::default()); MOST_ROWS]?;
     let mut ledger = Ledger::open(events.as_mut_slice(), rows.as_mut_slice());
     let mut tally = Tally::default();
     let refused = take_all(heap, &mut ledger, &mut tally, text)?;

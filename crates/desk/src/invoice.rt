@@ -12,33 +12,40 @@ fn without_return(line: &[u8]) -> &[u8] {
     }
 }
 
-// Prints one line's charge or what is wrong with it, and counts it.
-fn report_line<W: Write>(
-    out: &mut W,
-    totals: Totals,
-    number: usize,
-    line: &[u8],
+// A sheet as it is invoiced.
+#[derive(Drop)]
+struct Invoice<'o, W> {
+    out: &'o mut W,
     price: u64,
-) -> anyhow::Result<Totals> {
-    let counted = match sheet::charge(line, price) {
-        Ok(charge) => {
-            writeln!(out, "{charge}")?;
-            totals.with_charge(charge)
-        }
-        Err(wrong) => {
-            writeln!(out, "line {number}, {wrong}")?;
-            totals.with_refusal()
-        }
-    };
-    counted.context("the totals are too large to be counted")
+    totals: Totals,
+}
+
+impl<'o, W: Write> Invoice<'o, W> {
+    // Prints one line's charge or what is wrong with it, and counts it.
+    fn line(&mut self, number: usize, line: &[u8]) -> anyhow::Result<()> {
+        let counted = match sheet::charge(line, self.price) {
+            Ok(charge) => {
+                writeln!(self.out, "{charge}")?;
+                self.totals.with_charge(charge)
+            }
+            Err(wrong) => {
+                writeln!(self.out, "line {number}, {wrong}")?;
+                self.totals.with_refusal()
+            }
+        };
+        self.totals = counted.context("the totals are too large to be counted")?;
+        Ok(())
+    }
 }
 
 pub fn report<W: Write>(out: &mut W, text: &[u8], price: u64) -> anyhow::Result<()> {
-    let mut totals = Totals::new();
+    let totals = Totals::new();
+    let mut invoice = Invoice { out, price, totals };
     for (number, line) in (1..).zip(Pieces::of(text, b'\n')) {
-        totals = report_line(out, totals, number, without_return(line), price)?;
+        invoice.line(number, without_return(line))?;
     }
-    writeln!(out)?;
-    writeln!(out, "{totals}")?;
+    let totals = invoice.totals;
+    writeln!(invoice.out)?;
+    writeln!(invoice.out, "{totals}")?;
     Ok(())
 }

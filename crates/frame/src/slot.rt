@@ -4,7 +4,8 @@ ghost use Rattle.frame.specs.Slots.{added, optional_of, required_of};
 
 use refusal::Refusal;
 
-// The name stands nowhere, once with this value, or more often.
+// The name stands nowhere, once with this value, or more often. Kept: of three cases none is a failure while members are
+// collected; `required` and `optional` make the Result and the Option of it.
 #[derive(Clone, Copy)]
 pub enum Slot<T> {
     Missing,

@@ -75,7 +75,8 @@ pub trait Collects<'a> {
     // What began as the first is the second where an object has these members and those are left.
     ghost so_far: { Self → Self → Membs → Membs → Type 0 };
 
-    // Takes one member more, by its name with its quotes and what begins with its value; gives what follows the value.
+    // Takes one member more, by its name with its quotes and what begins with its value; gives what follows the value. Kept:
+    // two parameters, since a struct of both would be made in the one loop and taken apart at once.
     fn take(&mut self, called: &[u8], value: &'a [u8]) -> &'a [u8]
         ensures through { (end : List ℕ) (start : Self) (ms left : Membs) (t : Taken left called.now value.now end) → so_far start self.old ms left → so_far start self.new ms t.others × (result.now ≡ t.behind) }
         ensures bound { length result.now ≤ length value.now };

@@ -11,7 +11,7 @@ pub use message::MessageId;
 use refusal::Refusal;
 use std::fmt;
 
-#[derive(Clone, Copy)]
+#[derive(Clone, Copy, Default)]
 pub struct TransactionId {
     pub station: u16,
     pub session: u32,
@@ -51,19 +51,8 @@ impl TryFrom<&[u8]> for TransactionId {
     }
 }
 
-impl TransactionId {
-    // The same, by name.
-    pub fn read(text: &[u8]) -> Result<TransactionId, Refusal>
-        ensures { ReadsId text.now result }
-    {
-        TransactionId::try_from(text)
-    }
-}
-
 impl fmt::Display for TransactionId {
     fn fmt<W: fmt::Write>(&self, f: &mut fmt::Formatter<W>) -> fmt::Result {
-        let station = self.station;
-        let session = self.session;
-        write!(f, "{station:05}-{session:08}")
+        write!(f, "{:05}-{:08}", self.station, self.session)
     }
 }

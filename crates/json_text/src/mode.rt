@@ -59,7 +59,8 @@ pub enum Mode {
     Colon,
     // what follows a value
     After,
-    // the rest of a string, which is a member's name or not
+    // the rest of a string, which is a member's name or not. Kept: a bool beside the part, as two enums of six parts would
+    // say the same twice.
     Text(StringPart, bool),
     Figure(NumberPart),
     Word(WordRest),

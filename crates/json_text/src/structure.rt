@@ -118,7 +118,8 @@ fn in_colon(byte: u8) -> Option<Move>
     }
 }
 
-// What a byte does in a mode, with this container the innermost that is open.
+// What a byte does in a mode, with this container the innermost that is open. Kept: container and byte are two parameters
+// of each step; a struct of both would be taken apart at once in each.
 pub fn next(mode: Mode, inner: Option<Container>, byte: u8) -> Option<Move>
     ensures { RightIn inner result (λ k. move (mode_of mode) k byte) }
 {

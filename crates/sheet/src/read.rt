@@ -37,7 +37,7 @@ pub fn read_price(text: &[u8]) -> Result<u64, Refusal>
 fn id(text: &[u8]) -> Result<TransactionId, Misread>
     ensures { MatchResult result (IdIn text.now) (λ m. (m.field ≡ Field.Id) × (m.place ≡ 1) × NoId text.now m.why) }
 {
-    TransactionId::read(text).map_err(|why| Misread {
+    TransactionId::try_from(text).map_err(|why| Misread {
         field: Field::Id,
         place: 1,
         why,

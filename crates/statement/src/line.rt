@@ -8,7 +8,8 @@ use draft::Draft;
 use ids::TransactionId;
 use runs::Run;
 
-// The letter of a line, a space and the transaction id.
+// The letter of a line, a space and the transaction id. Kept: the writer of frames pushes an id by the same three calls;
+// `ids` knows no drafts and `draft` no ids.
 pub(crate) fn begin(letter: u8, id: TransactionId) -> Draft
     ensures text { text_in result ≡ head letter id }
     ensures long { length (text_in result) ≡ 16 }
