@@ -34,7 +34,7 @@ pub fn write(second: u32) -> Result<[u8; 20], Refusal>
 }
 
 // A civil time, in UTC. It is public only so that contracts can name it. Kept: that it is lawful is no invariant of the
-// type, since `is_lawful` must see what a text says before it is known to exist; only `days` and `seconds` ask for it.
+// type, since what it is for a text to denote a second says it in the open.
 #[derive(Drop)]
 pub struct Civil {
     year: u16,
@@ -153,6 +153,7 @@ fn days_before_month(year: u16, month: u8) -> u32
     ensures value { result ≡ days_before_month year month }
     ensures bound { result ≤ 3060 }
 {
+    // Kept: a `for`, since the bound and the value of `.map(..).sum()` were tried and stayed open.
     let mut days = 0;
     for earlier in 1..month {
         days += u32::from(month_length(year, earlier));
@@ -187,35 +188,17 @@ fn month_and_day(year: u16, day_of_year: u32) -> (u8, u8)
     unreachable!()
 }
 
-// There are 20 bytes, and the marks stand in their places.
+// There are 20 bytes, and the marks stand in their places. Kept: by their places, since a slice pattern of 20 is longer.
 fn has_marks(text: &[u8]) -> bool
     ensures { MatchBool result (Marked text.now) (Marked text.now → ⊥) }
 {
-    matches!(
-        text,
-        [
-            _,
-            _,
-            _,
-            _,
-            b'-',
-            _,
-            _,
-            b'-',
-            _,
-            _,
-            b'T',
-            _,
-            _,
-            b':',
-            _,
-            _,
-            b':',
-            _,
-            _,
-            b'Z'
-        ]
-    )
+    text.len() == 20
+        && text[4] == b'-'
+        && text[7] == b'-'
+        && text[10] == b'T'
+        && text[13] == b':'
+        && text[16] == b':'
+        && text[19] == b'Z'
 }
 
 // The number that the digits at a place write. Kept: a place and a width, where a range would hide the width in a difference.

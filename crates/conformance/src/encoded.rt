@@ -72,6 +72,7 @@ fn first_piece(written: &[u8]) -> Option<Piece>
     ensures pieces { MatchOption result ((p : Piece) → IsPiece written.now p → ⊥) (IsPiece written.now) }
     ensures wide { IfSome result (Wide written.now) }
 {
+    // Kept: `or_else` was tried; what its closures answer is out of the proof's reach.
     if let Some(piece) = itself(written) {
         return Some(piece);
     }
@@ -84,6 +85,7 @@ fn first_piece(written: &[u8]) -> Option<Piece>
 fn put(text: &mut Vec<u8>, piece: Piece) -> Result<(), AllocError>
     ensures { OnOk result (Gains text.old.items piece text.new.items) }
 {
+    // Kept: no `resize`, which wants the new length, a sum that might not fit.
     for _ in 0..piece.times {
         text.push(piece.byte)?;
     }

@@ -8,7 +8,7 @@ ghost use Rattle.decimal.specs.Decimal.{AllDigits, value, fixed, FixedText, Plai
 const MOST_DIGITS: usize = 18;
 
 // The number that the bytes write, or `u64::MAX` where it is larger; `None` where a byte is no digit. Kept: it saturates, as
-// the library's own sums do, since who reads a number compares it with a limit and would only undo a case of its own.
+// the library's own sums do; a case of its own would be an error type that every caller turns into its own refusal.
 fn capped_value(digits: &[u8]) -> Option<u64>
     ensures { MatchOption result (AllDigits digits.now → ⊥) (λ n. AllDigits digits.now × (n ≡ min (value digits.now) (2 ^ 64 - 1))) }
 {
@@ -56,7 +56,8 @@ pub fn write_fixed(number: u64, out: &mut [u8])
     ensures { out.new ≡ fixed (length out.old) number }
 {
     let mut rest = number;
-    // Kept: places are counted, since nothing is known of what an adapter of `iter_mut`, as its `rev`, has written.
+    // Kept: places are counted, since nothing is known of what an adapter of `iter_mut`, as its `rev`, has written, and a
+    // `while let` over `split_last_mut` wants a measure and more of an invariant.
     for i in (0..out.len()).rev() {
         out[i] = last_digit(rest);
         rest /= 10;

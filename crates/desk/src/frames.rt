@@ -2,33 +2,36 @@
 use crate::refused::Refused;
 use event::Transmission;
 use split::Pieces;
-use std::io;
+use std::fmt;
 use std::io::Write;
 
-// What the frame says, in plain words. Kept: printed here and by no `Display`, since the timestamp is bytes.
-fn print_transmission<W: Write>(
-    out: &mut W,
+// What a frame says, in plain words.
+#[derive(Clone, Copy)]
+struct Told {
     line: usize,
-    transmission: &Transmission,
-) -> io::Result<()> {
-    let event = transmission.event;
-    write!(
-        out,
-        "line {line}: station {}, session {}, number {}, attempt {}: {} at ",
-        event.station, event.session, event.number, transmission.attempt, event.kind
-    )?;
-    if let Ok(stamp) = calendar::write(event.time) {
-        out.write_all(&stamp)?;
+    transmission: Transmission,
+}
+
+impl fmt::Display for Told {
+    fn fmt<W: fmt::Write>(&self, f: &mut fmt::Formatter<W>) -> fmt::Result {
+        let Transmission { event, attempt } = self.transmission;
+        write!(
+            f,
+            "line {}: station {}, session {}, number {}, attempt {attempt}: {} at ",
+            self.line, event.station, event.session, event.number, event.kind
+        )?;
+        if let Ok(stamp) = calendar::write(event.time) {
+            for byte in &stamp {
+                write!(f, "{}", char::from(*byte))?;
+            }
+        }
+        write!(f, ", {}", event.reason)?;
+        match event.register {
+            Some(register) => write!(f, ", register {register} Wh")?,
+            None => f.write_str(", no register")?,
+        }
+        f.write_str(if event.offline { ", offline" } else { "" })
     }
-    write!(out, ", {}", event.reason)?;
-    match event.register {
-        Some(register) => write!(out, ", register {register} Wh")?,
-        None => write!(out, ", no register")?,
-    }
-    if event.offline {
-        write!(out, ", offline")?;
-    }
-    writeln!(out)
 }
 
 pub fn report<W: Write>(out: &mut W, text: &[u8]) -> anyhow::Result<()> {
@@ -37,7 +40,7 @@ pub fn report<W: Write>(out: &mut W, text: &[u8]) -> anyhow::Result<()> {
     for (line, frame) in (1..).zip(Pieces::of(text, b'\n')) {
         match frame_reader::read(frame) {
             Ok(transmission) => {
-                print_transmission(out, line, &transmission)?;
+                writeln!(out, "{}", Told { line, transmission })?;
                 read = read.saturating_add(1);
             }
             Err(why) => {

@@ -10,6 +10,6 @@ pub use events::{
     Answer, Event, EventType, LARGEST_REGISTER, LAST_ATTEMPT, LAST_NUMBER, LAST_SESSION, LAST_TIME,
     Register, Transmission, TriggerReason, Verdict,
 };
-pub use keys::{EventId, NoSuchKey, key_number, session_key};
+pub use keys::{EventId, key_number, session_key};
 pub use names::{Named, find_named};
 pub use search::{Keyed, find};

@@ -74,7 +74,8 @@ impl fmt::Display for EventType {
     ghost output = { λ kind. Some (type_text kind) };
 
     fn fmt<W: fmt::Write>(&self, f: &mut fmt::Formatter<W>) -> fmt::Result {
-        f.write_str(self.name())
+        let kind = self.name();
+        f.write_str(kind)
     }
 }
 
@@ -82,6 +83,7 @@ impl fmt::Display for TriggerReason {
     ghost output = { λ reason. Some (reason_text reason) };
 
     fn fmt<W: fmt::Write>(&self, f: &mut fmt::Formatter<W>) -> fmt::Result {
-        f.write_str(self.name())
+        let reason = self.name();
+        f.write_str(reason)
     }
 }

@@ -1,5 +1,6 @@
 // The pieces of a frame, each pushed behind the draft's text.
-// Kept: the room that a piece needs stands in its contract, since each needs its own.
+// Kept: the room that a piece needs stands in its contract, since each needs its own; and a draft and a timestamp are two
+// parameters, since one is written to and the other read.
 ghost use Rattle.std.specs.Prelude.{◌≡◌, ◌+◌, ◌≤◌, ◌++◌, length, Some};
 ghost use Rattle.draft.specs.Growing.{most, text_in};
 ghost use Rattle.frame_writer.specs.Compact.{members, other_members};

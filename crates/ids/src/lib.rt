@@ -51,6 +51,15 @@ impl TryFrom<&[u8]> for TransactionId {
     }
 }
 
+impl TransactionId {
+    // The same, by name.
+    pub fn read(text: &[u8]) -> Result<TransactionId, Refusal>
+        ensures { ReadsId text.now result }
+    {
+        TransactionId::try_from(text)
+    }
+}
+
 impl fmt::Display for TransactionId {
     fn fmt<W: fmt::Write>(&self, f: &mut fmt::Formatter<W>) -> fmt::Result {
         write!(f, "{:05}-{:08}", self.station, self.session)

@@ -1,4 +1,5 @@
-// Finds the end of an array or an object.
+// Finds the end of an array or an object. Kept, in this crate: that a length is no greater than that of the bytes stands in
+// each contract that gives one, since it is about a number and a slice.
 ghost use Rattle.std.specs.Prelude.{◌≡◌, ◌+◌, ◌^◌, ◌≤◌, length};
 ghost use Rattle.json_text.specs.Beginnings.{deeper, past};
 ghost use Rattle.json_text.specs.Beginnings.Spot.{outside};

@@ -8,7 +8,8 @@ use crate::nested::closing_length;
 use crate::quoted::string_length;
 use crate::structure::is_white;
 
-// The bytes after white space.
+// The bytes after white space. Kept: this walk, that of `scalar_length` and that of `plain_length` are not one with a
+// closure, whose contract would say in more words what each definition says.
 pub fn skip_white(s: &[u8]) -> &[u8]
     ensures { result.now ≡ skip s.now }
 {

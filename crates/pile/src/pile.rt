@@ -33,6 +33,8 @@ impl<'a> Pile for Hall<'a, Transmission> {
     }
 }
 
+// Kept: the two lines on layers stand here and below; a function for both was tried, which leads back to the impls and so
+// gets no proof.
 impl<C: Pile> Pile for Repeater<C> {
     fn bottom(&self) -> (&[Transmission], &[Transmission]) {
         self.below.bottom()

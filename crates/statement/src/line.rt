@@ -1,5 +1,5 @@
 // The parts of a line, each pushed behind the draft's text. No line is longer than a draft: an id, two numbers and
-// 16 stretches take fewer bytes.
+// 16 stretches take fewer bytes. Kept: the room that a part needs stands in its contract, since each needs its own.
 ghost use Rattle.std.specs.Prelude.{◌≡◌, ◌+◌, ◌*◌, ◌≤◌, ◌∷◌, ◌++◌, length, decimal};
 ghost use Rattle.draft.specs.Growing.{most, text_in};
 ghost use Rattle.statement.specs.Lines.{head, stretch_text, stretches_text};

@@ -29,6 +29,7 @@ impl RunTable {
                 last: first.first - 1,
             });
         }
+        // Kept: the run below goes along, since `windows` gives slices that would have to be taken apart again.
         let mut below = *first;
         for run in later {
             gaps.push(below.gap_to(*run));
@@ -41,6 +42,7 @@ impl RunTable {
     pub fn size(&self) -> u32
         ensures { Counts (runs_in self.now) result }
     {
+        // Kept: a `for`, since `.map(..).sum()` was tried and what it asks of the closure stayed open.
         let mut numbers = 0;
         for run in self.as_slice() {
             numbers += run.size();
