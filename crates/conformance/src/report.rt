@@ -27,7 +27,8 @@ fn counted(count: Count, as_expected: bool) -> anyhow::Result<Count> {
 }
 
 impl<'o, 't, W: Write> Judging<'o, 't, W> {
-    // Nothing where the group has no texts.
+    // Nothing where the group has no texts. Kept: printed here and by no `Display`, since a group's name is whatever bytes
+    // the table has.
     fn end_group(&mut self) -> io::Result<()> {
         if self.group.texts == 0 {
             return Ok(());

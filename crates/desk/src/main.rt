@@ -21,7 +21,8 @@ fn price(rt: &HostRuntime, text: &str) -> anyhow::Result<u64> {
     }
 }
 
-// Writes a report on all of standard input to standard output.
+// Writes a report on all of standard input to standard output. Kept: each report takes where it writes and what it reads
+// as two parameters, and makes the struct that it needs itself.
 fn report<F: FnOnce(&mut BufWriter<Stdout>, &[u8]) -> anyhow::Result<()>>(
     rt: &HostRuntime,
     write: F,

@@ -27,6 +27,7 @@ fn bill_line(bill: Bill, price: Price) -> Draft
     line
 }
 
+// Kept: drafts take bytes, so a `Display` would not serve.
 fn end_word(end: EndMark) -> &'static [u8]
     ensures text { result.now ≡ end_text end }
     ensures long { length result.now ≤ 6 }
