@@ -33,6 +33,7 @@ impl Named for EventType {
     }
 }
 
+// Kept: tables, as for the event types, of other names.
 impl Named for TriggerReason {
     ghost named = { reason_text };
 

@@ -52,6 +52,7 @@ impl<'a> Collects<'a> for Payload<'a> {
             return behind;
         }
         let (value, behind) = cut(value);
+        // Kept: a call for each name, since each has a field of its own.
         self.event_type = note(self.event_type, called, value, EVENT_TYPE);
         self.timestamp = note(self.timestamp, called, value, TIMESTAMP);
         self.trigger_reason = note(self.trigger_reason, called, value, TRIGGER_REASON);

@@ -100,6 +100,7 @@ impl<'l, 'm> Lines<'l, 'm> {
         ensures text { Stands (part_lines (events_in self.now.ledger.now) self.now.price.thousandths self.now.part) out.old out.new }
     {
         let mut end = 0;
+        // Kept: a `for` over places, since a ledger gives its rows by their place.
         for place in 0..self.ledger.len() {
             let line = self.line(place);
             let next = end + line.len();

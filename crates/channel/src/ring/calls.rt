@@ -39,7 +39,7 @@ impl<'a, T: Copy> Ring<'a, T> {
         }
     }
 
-    // How many places are used.
+    // How many places are used. Kept: a ledger has the same expression for its two memories, and one expression is all.
     pub(super) fn places(&self) -> usize
         ensures { result ≡ usable (contents self.now).memory }
     {
