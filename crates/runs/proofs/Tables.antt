@@ -1,9 +1,9 @@
 -- What the changes of a table do to the runs in use. Assumes nothing.
 use Rattle.std.proofs.Common.{◌≡◌, ℕ, suc, ◌+◌, ◌-◌, ◌<◌, ◌≤◌, max, true, false, leb, List, ◌∷◌, ◌++◌, length, get_or, take, drop, set, zero, [], Some, None, Option, MatchOption, slice_get, Bor, sym, ap, ◌∙◌, subst, ap₂, le_of_suc-le-suc, arith, length-drop, length-set, length-take}
 use borrow.Rule.Slice.PartMut.{put_mid, mid_of}
-use Rattle.std.proofs.lemmas.List.{take_more, length-append, take_all, append-nil, get_or_default, get_or-drop, get_or-take, get_or-set_same, get_or-set_other, set-set}
+use Rattle.std.proofs.lemmas.List.{take_more, length-append, take_all, get_or_default, get_or-drop, get_or-take, get_or-set_same, get_or-set_other, set-set}
 use Rattle.std.proofs.lemmas.Option.{same_Some, slice_get-get_or}
-use Rattle.std.proofs.lemmas.Bool.{cond-false, cond-true, le-leb, le-ltb, leb-false, leb-true, lt-ltb}
+use Rattle.std.proofs.lemmas.Bool.{cond-true, le-leb, leb-false, leb-true, lt-ltb}
 use Rattle.runs.proofs.Ascends.{Rising, ascending_from, rising_from, stretches_exact}
 use Rattle.runs.proofs.Gaps.{edge, edge_at, gap, gaps_cover, gaps_from, gaps_more, gaps_rising, highest_last, rising_apart, rising_here, rising_next, rising_take}
 use Rattle.runs.proofs.Sizes.{total, total_counts, total_more}
