@@ -34,7 +34,7 @@ pub fn write(second: u32) -> Result<[u8; 20], Refusal>
 }
 
 // A civil time, in UTC. It is public only so that contracts can name it. Kept: that it is lawful is no invariant of the
-// type, since what it is for a text to denote a second says it in the open.
+// type; one would hide in the type what `Denotes` says in the open, and whoever speaks of a civil time would have to build it.
 #[derive(Drop)]
 pub struct Civil {
     year: u16,
@@ -153,7 +153,7 @@ fn days_before_month(year: u16, month: u8) -> u32
     ensures value { result ≡ days_before_month year month }
     ensures bound { result ≤ 3060 }
 {
-    // Kept: a `for`, since the bound and the value of `.map(..).sum()` were tried and stayed open.
+    // Kept: a `for`, since `.map(..).sum()` was tried, and what `month_length` asks of each month stayed open.
     let mut days = 0;
     for earlier in 1..month {
         days += u32::from(month_length(year, earlier));

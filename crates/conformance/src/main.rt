@@ -34,8 +34,8 @@ fn run(rt: &HostRuntime) -> anyhow::Result<()> {
     }
 }
 
-// The message of an error stands once on standard error, and the status is 1. Kept: the same lines as in `desk`, which
-// would be a crate of one function for two programs.
+// The message of an error stands once on standard error, and the status is 1. Kept: the same lines as in `desk`; a
+// crate of one function for two programs would be more.
 fn main(rt: HostRuntime) -> ExitCode {
     match run(&rt) {
         Ok(()) => ExitCode::SUCCESS,

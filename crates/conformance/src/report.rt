@@ -39,6 +39,7 @@ impl<'o, 't, W: Write> Judging<'o, 't, W> {
         writeln!(self.out)
     }
 
+    // Kept: printed by this one call from two places; a struct with a `Display` would be longer.
     fn misfit(&mut self, number: usize) -> io::Result<()> {
         writeln!(self.out, "line {number}: not a line of a table")
     }

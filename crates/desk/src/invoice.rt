@@ -1,7 +1,8 @@
 // The report on a sheet of meter readings.
 use anyhow::Context;
-use sheet::Totals;
+use sheet::{Charge, Misread, Totals};
 use split::Pieces;
+use std::fmt;
 use std::io::Write;
 
 // A line that a carriage return ends, too.
@@ -9,6 +10,48 @@ fn without_return(line: &[u8]) -> &[u8] {
     match line {
         [front @ .., b'\r'] => front,
         _ => line,
+    }
+}
+
+// `00017-00000003      12500 Wh        438 cents`
+#[derive(Clone, Copy)]
+struct Billed(Charge);
+
+impl fmt::Display for Billed {
+    fn fmt<W: fmt::Write>(&self, f: &mut fmt::Formatter<W>) -> fmt::Result {
+        let Charge { id, energy, cents } = self.0;
+        write!(f, "{id} {energy:>10} Wh {cents:>10} cents")
+    }
+}
+
+// `place 16 (started Wh): refused 12: the register is below the session's last register`
+#[derive(Clone, Copy)]
+struct Wrong(Misread);
+
+impl fmt::Display for Wrong {
+    fn fmt<W: fmt::Write>(&self, f: &mut fmt::Formatter<W>) -> fmt::Result {
+        let Misread { field, place, why } = self.0;
+        write!(
+            f,
+            "place {place} ({field}): refused {}: {why}",
+            why.number()
+        )
+    }
+}
+
+// The last lines.
+#[derive(Clone, Copy)]
+struct Sums(Totals);
+
+impl fmt::Display for Sums {
+    fn fmt<W: fmt::Write>(&self, f: &mut fmt::Formatter<W>) -> fmt::Result {
+        writeln!(f, "lines billed:     {:>10}", self.0.billed)?;
+        writeln!(f, "lines not billed: {:>10}", self.0.refused)?;
+        write!(
+            f,
+            "total:         {:>10} Wh {:>10} cents",
+            self.0.energy, self.0.cents
+        )
     }
 }
 
@@ -25,11 +68,11 @@ impl<'o, W: Write> Invoice<'o, W> {
     fn line(&mut self, number: usize, line: &[u8]) -> anyhow::Result<()> {
         let counted = match sheet::charge(line, self.price) {
             Ok(charge) => {
-                writeln!(self.out, "{charge}")?;
+                writeln!(self.out, "{}", Billed(charge))?;
                 self.totals.with_charge(charge)
             }
             Err(wrong) => {
-                writeln!(self.out, "line {number}, {wrong}")?;
+                writeln!(self.out, "line {number}, {}", Wrong(wrong))?;
                 self.totals.with_refusal()
             }
         };
@@ -44,8 +87,8 @@ pub fn report<W: Write>(out: &mut W, text: &[u8], price: u64) -> anyhow::Result<
     for (number, line) in (1..).zip(Pieces::of(text, b'\n')) {
         invoice.line(number, without_return(line))?;
     }
-    let totals = invoice.totals;
+    let sums = Sums(invoice.totals);
     writeln!(invoice.out)?;
-    writeln!(invoice.out, "{totals}")?;
+    writeln!(invoice.out, "{sums}")?;
     Ok(())
 }

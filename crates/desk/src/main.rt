@@ -21,8 +21,8 @@ fn price(rt: &HostRuntime, text: &str) -> anyhow::Result<u64> {
     }
 }
 
-// Writes a report on all of standard input to standard output. Kept: each report takes where it writes and what it reads
-// as two parameters, and makes the struct that it needs itself.
+// Writes a report on all of standard input to standard output. Kept: a struct of writer, text and price would be made in
+// `run` and taken apart at once in each report.
 fn report<F: FnOnce(&mut BufWriter<Stdout>, &[u8]) -> anyhow::Result<()>>(
     rt: &HostRuntime,
     write: F,
@@ -57,7 +57,8 @@ fn run(rt: &HostRuntime) -> anyhow::Result<()> {
     }
 }
 
-// The message of an error stands once on standard error, and the status is 1.
+// The message of an error stands once on standard error, and the status is 1. Kept: the same lines as in `conformance`; a
+// crate of one function for two programs would be more.
 fn main(rt: HostRuntime) -> ExitCode {
     match run(&rt) {
         Ok(()) => ExitCode::SUCCESS,

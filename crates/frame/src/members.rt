@@ -50,8 +50,8 @@ pub fn find_inside<'a>(s: &'a [u8], name: &[u8]) -> (Slot<&'a [u8]>, &'a [u8])
     (look.found, behind)
 }
 
-// Looks for a name, given with its quotes, among the members of an object. Kept: object and name are two parameters, as one
-// object is asked for several names.
+// Looks for a name, given with its quotes, among the members of an object. Kept: object and name are two parameters, as a
+// caller may ask one object for several names.
 pub fn find_member<'a>(object: &'a [u8], name: &[u8]) -> Slot<&'a [u8]>
     ensures { (called : List ℕ) (ms : Membs) → name.now ≡ quoted called → Value (jobject ms) object.now → Found Bytes result called ms }
 {

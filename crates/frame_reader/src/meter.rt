@@ -1,4 +1,5 @@
-// The sample in a meterValue.
+// The sample in a meterValue. Kept: that what follows is no longer than what was given stands in each contract, as in the
+// walk of `frame`, and for the same reason: it is about two slices.
 ghost use Rattle.std.specs.Prelude.{◌≡◌, ℕ, ◌<◌, ◌≤◌, List, length, IfSome, None, Ok, Option, Result, codes, MatchOption};
 ghost use Rattle.frame.specs.Slots.{Bytes, SoFar};
 ghost use Rattle.frame.specs.Walks.{Begins, Through};

@@ -12,7 +12,8 @@ use crate::words::flag_word;
 use draft::Draft;
 use event::{Event, Named, Register, Transmission};
 
-// The transaction id: station and session.
+// The transaction id: station and session. Kept: a line of a statement pushes an id by the same three calls; `ids` knows no
+// drafts and `draft` no ids.
 fn push_id(draft: &mut Draft, station: u16, session: u32)
     requires { length (text_in draft.old) + 14 ≤ most }
     ensures { text_in draft.new ≡ text_in draft.old ++ id_text station session }

@@ -46,6 +46,7 @@ pub fn closing_length(s: &[u8]) -> usize
     ensures value { result ≡ closing outside 0 s.now }
     ensures bound { result ≤ length s.now }
 {
+    // Kept: a `for` over `enumerate`, since spot and depth go along from byte to byte.
     let mut spot = Spot::Outside;
     let mut depth = 0;
     for (i, byte) in s.iter().enumerate() {

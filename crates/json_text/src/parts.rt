@@ -29,7 +29,7 @@ fn may_follow(byte: u8) -> bool
     is_white(byte) || matches!(byte, b',' | b']' | b'}')
 }
 
-// How long the number or literal at the front is.
+// How long the number or literal at the front is. Kept, as above.
 fn scalar_length(s: &[u8]) -> usize
     ensures value { result ≡ scalar_length s.now }
     ensures bound { result ≤ length s.now }

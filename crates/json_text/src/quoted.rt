@@ -59,7 +59,7 @@ fn plain_eights(s: &[u8]) -> usize
     s.len() - left.len()
 }
 
-// How many bytes at the front stand for themselves in a string.
+// How many bytes at the front stand for themselves in a string. Kept: a walk of its own, as `skip_white` says.
 pub fn plain_length(s: &[u8]) -> usize
     ensures bound { result ≤ length s.now }
     ensures plain { PlainTo result s.now }
@@ -97,7 +97,8 @@ pub fn after_string(name: bool) -> Mode
     if name { Mode::Colon } else { Mode::After }
 }
 
-// A byte of a string, outside its escapes.
+// A byte of a string, outside its escapes. Kept, here and below: byte and whether it is a name are two parameters, as one
+// comes with the text and the other with the mode.
 fn in_chars(byte: u8, name: bool) -> Option<Move>
     ensures { Right result (λ k. move (chars name) k byte) }
 {

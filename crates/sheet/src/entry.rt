@@ -45,23 +45,3 @@ impl fmt::Display for Field {
         })
     }
 }
-
-// `00017-00000003      12500 Wh        438 cents`
-impl fmt::Display for Charge {
-    fn fmt<W: fmt::Write>(&self, f: &mut fmt::Formatter<W>) -> fmt::Result {
-        let Charge { id, energy, cents } = *self;
-        write!(f, "{id} {energy:>10} Wh {cents:>10} cents")
-    }
-}
-
-// `place 16 (started Wh): refused 12: the register is below the session's last register`
-impl fmt::Display for Misread {
-    fn fmt<W: fmt::Write>(&self, f: &mut fmt::Formatter<W>) -> fmt::Result {
-        let Misread { field, place, why } = *self;
-        write!(
-            f,
-            "place {place} ({field}): refused {}: {why}",
-            why.number()
-        )
-    }
-}

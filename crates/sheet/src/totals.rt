@@ -3,7 +3,6 @@ ghost use Rattle.std.specs.Prelude.{◌≡◌};
 ghost use Rattle.sheet.specs.Sums.{Becomes, nothing, with_charge, with_refusal};
 
 use crate::entry::Charge;
-use std::fmt;
 
 #[derive(Clone, Copy)]
 pub struct Totals {
@@ -47,19 +46,5 @@ impl Totals {
             refused: self.refused.checked_add(1)?,
             ..self
         })
-    }
-}
-
-impl fmt::Display for Totals {
-    fn fmt<W: fmt::Write>(&self, f: &mut fmt::Formatter<W>) -> fmt::Result {
-        let Totals {
-            billed,
-            refused,
-            energy,
-            cents,
-        } = *self;
-        writeln!(f, "lines billed:     {billed:>10}")?;
-        writeln!(f, "lines not billed: {refused:>10}")?;
-        write!(f, "total:         {energy:>10} Wh {cents:>10} cents")
     }
 }

@@ -42,7 +42,7 @@ impl RunTable {
     pub fn size(&self) -> u32
         ensures { Counts (runs_in self.now) result }
     {
-        // Kept: a `for`, since `.map(..).sum()` was tried and what it asks of the closure stayed open.
+        // Kept: a `for`, since `.map(..).sum()` was tried, and what `Run::size` asks of each run stayed open.
         let mut numbers = 0;
         for run in self.as_slice() {
             numbers += run.size();
