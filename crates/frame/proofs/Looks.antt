@@ -1,5 +1,5 @@
 -- A look for a name, member by member. Assumes nothing.
-use Rattle.std.proofs.Common.{◌≡◌, ℕ, suc, ◌+◌, ◌<◌, ◌≤◌, Bool, true, false, List, [], ◌∷◌, length, drop, Some, None, Option, Result, sym, refl, ap, ◌∙◌, subst, arith, Bor, MatchOption, MatchResult}
+use Rattle.std.proofs.Common.{◌≡◌, ℕ, suc, ◌+◌, ◌<◌, ◌≤◌, Bool, true, false, List, [], ◌∷◌, length, drop, Some, None, Ok, Err, Option, Result, sym, refl, ap, ◌∙◌, subst, arith, Bor, MatchOption, MatchResult}
 use Rattle.std.proofs.lemmas.Slice.Eq.{bytes_eq-Decides}
 use Rattle.std.proofs.lemmas.List.{append_cancel_right}
 use Rattle.std.proofs.lemmas.Bool.{cond-false, cond-true, true≢false}
@@ -124,16 +124,22 @@ module _ {T : Type 0} (right : Json → T → Type 0) (name : List ℕ) (ms : Me
   found_all (Once v) (c, u) = (omega (arith, c), u)
   found_all Twice c = c
 
+-- the same of bytes, which `Under` speaks of
 module _ (name : List ℕ) (ms : Membs) where
+  of_required : (r : Result (Bor (List ℕ)) Refusal) → RequiredIn Bytes name ms r → Required name ms r
+  of_required (Ok v) (c, (tree, is, bytes)) = (c, record { tree = tree; is = is; bytes = bytes })
+  of_required (Err why) h = h
+
+  of_optional : (r : Result (Option (Bor (List ℕ))) Refusal) → OptionalIn Bytes name ms r → Optional name ms r
+  of_optional (Ok None) h = h
+  of_optional (Ok (Some v)) (c, (tree, is, bytes)) = (c, record { tree = tree; is = is; bytes = bytes })
+  of_optional (Err why) h = h
+
   pub required_bytes : (slot : Slot (Bor (List ℕ))) (r : Result (Bor (List ℕ)) Refusal) → r ≡ required_of slot → Found Bytes slot name ms → Required name ms r
-  required_bytes Missing r e (c, u) = subst (Required name ms) (sym e) (refl, λ one. omega (arith, c, one))
-  required_bytes (Once v) r e (c, (tree, is, bytes)) = subst (Required name ms) (sym e) (c, record { tree = tree; is = is; bytes = bytes })
-  required_bytes Twice r e c = subst (Required name ms) (sym e) (refl, λ one. omega (arith, c, one))
+  required_bytes slot r e f = of_required r (is_required Bytes name ms slot r e f)
 
   pub optional_bytes : (slot : Slot (Bor (List ℕ))) (r : Result (Option (Bor (List ℕ))) Refusal) → r ≡ optional_of slot → Found Bytes slot name ms → Optional name ms r
-  optional_bytes Missing r e (c, u) = subst (Optional name ms) (sym e) (omega (arith, c), u)
-  optional_bytes (Once v) r e (c, (tree, is, bytes)) = subst (Optional name ms) (sym e) (omega (arith, c), record { tree = tree; is = is; bytes = bytes })
-  optional_bytes Twice r e c = subst (Optional name ms) (sym e) (refl, λ few. omega (arith, c, few))
+  optional_bytes slot r e f = of_optional r (is_optional Bytes name ms slot r e f)
 
 -- names are the same where they are with their quotes
 pub unquoted : (n called : List ℕ) → quoted n ≡ quoted called → n ≡ called

@@ -49,14 +49,20 @@ pub record PlainFront (s left : List ℕ) : Type 0 where
   pub is : left ≡ drop (length s - length left) s
   pub plain : PlainTo (length s - length left) s
 
--- n more are gone
-pub more_gone : (s left rest : List ℕ) (n : ℕ) → PlainFront s left → n ≤ length left → PlainTo n left → rest ≡ drop n left → PlainFront s rest
-more_gone s left rest n front room all is =
+-- n bytes more are gone of what is left: how many are gone then, and what is left
+pub gone_on : (s left rest : List ℕ) (n : ℕ) → length left ≤ length s → left ≡ drop (length s - length left) s → n ≤ length left → rest ≡ drop n left
+    → (length s - length left + n ≡ length s - length rest) × (length rest ≤ length s) × (rest ≡ drop (length s - length rest) s)
+gone_on s left rest n bound front room is =
     let i = length s - length left in
     let long : length rest ≡ length left - n = ap length is ∙ length-drop n left in
-    let e : i + n ≡ length s - length rest = omega (arith, front.bound) in
+    let e : i + n ≡ length s - length rest = omega (arith, bound) in
+    (e, omega (arith, bound), is ∙ ap (drop n) front ∙ drop-drop n i s ∙ ap (λ m. drop m s) e)
+
+pub more_gone : (s left rest : List ℕ) (n : ℕ) → PlainFront s left → n ≤ length left → PlainTo n left → rest ≡ drop n left → PlainFront s rest
+more_gone s left rest n front room all is =
+    let g = gone_on s left rest n front.bound front.is room is in
     record {
-      bound = omega (arith, front.bound);
-      is = is ∙ ap (drop n) front.is ∙ drop-drop n i s ∙ ap (λ m. drop m s) (let f : i + n ≡ length s - length rest = omega (arith, e) in f);
-      plain = subst (λ m. PlainTo m s) e (more_plain s i n front.plain (subst (PlainTo n) front.is all));
+      bound = g.1;
+      is = g.2;
+      plain = subst (λ m. PlainTo m s) g.0 (more_plain s (length s - length left) n front.plain (subst (PlainTo n) front.is all));
     }

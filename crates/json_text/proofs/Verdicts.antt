@@ -1,5 +1,5 @@
 -- From the machine's run to what is said of the bytes. Assumes nothing.
-use Rattle.std.proofs.Common.{◌≡◌, ℕ, zero, suc, ◌+◌, ◌-◌, ◌<◌, ◌≤◌, Bool, true, false, ◌⊎◌, List, [], ◌∷◌, length, get_or, take, drop, sym, refl, ap, ◌∙◌, subst, inl, inr, ⊎_elim, arith, drop-drop, length-drop, take-add}
+use Rattle.std.proofs.Common.{◌≡◌, ℕ, zero, suc, ◌+◌, ◌-◌, ◌<◌, ◌≤◌, Bool, true, false, ◌⊎◌, List, [], ◌∷◌, length, get_or, take, drop, sym, refl, ap, ◌∙◌, subst, inl, inr, ⊎_elim, arith, take-add}
 use Rattle.std.proofs.lemmas.List.{get_or-drop, take_all, take_more, take-take, take-append-drop}
 use Rattle.std.proofs.lemmas.Bool.{cases_lt, false≢true}
 use Rattle.std.proofs.lemmas.Bool.Decides.{nat_tests}
@@ -15,6 +15,7 @@ use Rattle.refusal.specs.declared.Refusal.{Refusal}
 use Rattle.refusal.specs.declared.Refusal.TheVariants.{NotJson, TooDeep}
 use Rattle.json_text.proofs.Alive.{begins_live, live_begins, live_depth}
 use Rattle.json_text.proofs.Complete.{text_accepted}
+use Rattle.json_text.proofs.Plains.{gone_on}
 use Rattle.json_text.proofs.Runs.{run_append, run_dead}
 use Rattle.json_text.proofs.Sound.{accepted_text}
 use Rattle.json_text.proofs.Stacks.{length_stack}
@@ -153,13 +154,12 @@ pub record Reached (text left : List ℕ) (s : State) : Type 0 where
 pub reached_on : (text left : List ℕ) (s to : State) (n : ℕ) (after : List ℕ) → Reached text left s → Passes s n left to → n ≤ length left → after ≡ drop n left → Reached text after to
 reached_on text left s to n after r p room is =
     let i = length text - length left in
-    let long : length after ≡ length left - n = ap length is ∙ length-drop n left in
-    let e : i + n ≡ length text - length after = omega (arith, r.bound) in
+    let g = gone_on text left after n r.bound r.is room is in
     record {
-      bound = omega (arith, r.bound);
-      is = is ∙ ap (drop n) r.is ∙ drop-drop n i text ∙ ap (λ m. drop m text) e;
-      runs = subst (λ m. run begin (take m text) ≡ to) e (run_on text i n s to r.runs (subst (λ l. run s (take n l) ≡ to) r.is p.runs));
-      shallow = subst (ShallowTo text) e (shallow_on text i n s r.runs r.shallow (λ m h. subst (λ l. Shallow (run s (take m l))) r.is (p.shallow m h)));
+      bound = g.1;
+      is = g.2;
+      runs = subst (λ m. run begin (take m text) ≡ to) g.0 (run_on text i n s to r.runs (subst (λ l. run s (take n l) ≡ to) r.is p.runs));
+      shallow = subst (ShallowTo text) g.0 (shallow_on text i n s r.runs r.shallow (λ m h. subst (λ l. Shallow (run s (take m l))) r.is (p.shallow m h)));
     }
 
 -- the state that was reached is shallow
