@@ -20,10 +20,10 @@ impl fmt::Display for Told {
             "line {}: station {}, session {}, number {}, attempt {attempt}: {} at ",
             self.line, event.station, event.session, event.number, event.kind
         )?;
-        if let Ok(stamp) = calendar::write(event.time) {
-            for byte in &stamp {
-                write!(f, "{}", char::from(*byte))?;
-            }
+        if let Ok(stamp) = calendar::write(event.time)
+            && let Ok(stamp) = str::from_utf8(&stamp)
+        {
+            f.write_str(stamp)?;
         }
         write!(f, ", {}", event.reason)?;
         match event.register {

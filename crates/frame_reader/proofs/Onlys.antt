@@ -98,7 +98,7 @@ sampled_finds tree r h = go (only_object tree) refl r h
     go (Some ms) e (Err why) (bad, not_named) = (bad, λ n. not_named (in_present NamedSample e n))
 
 -- the sample in a meterValue of one object
-meter_in : (tree : Json) (ms : Membs) (r : Result (Option Sample) Refusal) → only_object tree ≡ Some ms → ElementFinds ms r → MeterFinds tree r
+pub meter_in : (tree : Json) (ms : Membs) (r : Result (Option Sample) Refusal) → only_object tree ≡ Some ms → ElementFinds ms r → MeterFinds tree r
 meter_in tree ms (Ok None) is (named, none) =
     (present NamedMeter is named, λ meter sample m-is s-is. not_both none (subst (λ m. element_under (codes "sampledValue") m ≡ Some sample) (same_some m-is is) s-is))
 meter_in tree ms (Ok (Some s)) is (named, i) =

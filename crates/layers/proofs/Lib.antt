@@ -1,4 +1,3 @@
 pub mod Chains
-pub mod Places
 pub mod RepeaterLaws
 pub mod SpoolLaws

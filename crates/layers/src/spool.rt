@@ -39,18 +39,22 @@ impl<C: Channel<Item = Transmission>> Spool<C> {
         self.held.as_slice()
     }
 
-    // Passes the oldest down while any is held and below is open.
+    // Passes the oldest down while any is held and below is open. Kept: they go by their place and are taken off at once at
+    // the end, since to take the first off moves all that is held each time; and in a `for` over what is held, which is lent out
+    // then, the proof has no hold of the channel beside it.
     fn pass_down(&mut self)
         ensures passes { Passes C.Channel (spooled self.old) (spooled self.new) }
         ensures fits { length (spooled self.old).held ≤ spool_places }
     {
-        for _turn in 0..self.held.len() {
-            if self.below.free_count() == 0 {
-                return;
-            }
-            let oldest = self.held.remove(0);
+        let count = self.held.len();
+        let mut passed = 0;
+        while passed < count && self.below.free_count() > 0 {
+            let oldest = self.held.as_slice()[passed];
             self.below.send(oldest).unwrap();
+            passed += 1;
         }
+        self.held.as_mut_slice().rotate_left(passed);
+        self.held.truncate(count - passed);
     }
 }
 

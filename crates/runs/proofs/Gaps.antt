@@ -76,19 +76,6 @@ rising_next low (r ∷ []) i d g h = absurd (omega arith)
 rising_next low (r ∷ (s ∷ rs)) zero d g h = g.2.0
 rising_next low (r ∷ (s ∷ rs)) (suc i) d g h = rising_next (r.last + 2) (s ∷ rs) i d g.2 (le_of_suc-le-suc h)
 
-rising_above : (low : ℕ) (rs : List Run) (i : ℕ) (d : Run) → Rising low rs → i < length rs → low ≤ (get_or rs i d).last
-rising_above low [] i d g h = absurd (omega arith)
-rising_above low (r ∷ rs) zero d g h = omega arith
-rising_above low (r ∷ rs) (suc i) d g h = let above = rising_above (r.last + 2) rs i d g.2 (le_of_suc-le-suc h) in omega arith
-
--- of two rising runs the earlier ends no later
-pub rising_apart : (low : ℕ) (rs : List Run) (i j : ℕ) (d : Run) → Rising low rs → i ≤ j → j < length rs → (get_or rs i d).last ≤ (get_or rs j d).last
-rising_apart low [] i j d g h l = absurd (omega arith)
-rising_apart low (r ∷ rs) zero zero d g h l = omega arith
-rising_apart low (r ∷ rs) zero (suc j) d g h l = let above = rising_above (r.last + 2) rs j d g.2 (le_of_suc-le-suc l) in omega arith
-rising_apart low (r ∷ rs) (suc i) zero d g h l = absurd (omega arith)
-rising_apart low (r ∷ rs) (suc i) (suc j) d g h l = rising_apart (r.last + 2) rs i j d g.2 (le_of_suc-le-suc h) (le_of_suc-le-suc l)
-
 pub edge_at : (low : ℕ) (rs : List Run) (i : ℕ) (d : Run) → i < length rs → edge low (take (suc i) rs) ≡ suc (get_or rs i d).last
 edge_at low [] i d h = absurd (omega arith)
 edge_at low (r ∷ rs) zero d h = refl

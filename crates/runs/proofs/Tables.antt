@@ -1,11 +1,11 @@
 -- What the changes of a table do to the runs in use. Assumes nothing.
-use Rattle.std.proofs.Common.{◌≡◌, ℕ, suc, ◌+◌, ◌-◌, ◌<◌, ◌≤◌, max, true, false, leb, List, ◌∷◌, ◌++◌, length, get_or, take, drop, set, zero, [], Some, None, Option, MatchOption, slice_get, Bor, sym, ap, ◌∙◌, subst, ap₂, le_of_suc-le-suc, arith, length-drop, length-set, length-take}
+use Rattle.std.proofs.Common.{◌≡◌, ℕ, suc, ◌+◌, ◌-◌, ◌<◌, ◌≤◌, max, true, false, leb, List, ◌∷◌, ◌++◌, length, get_or, take, drop, set, [], Some, None, Option, MatchOption, slice_get, Bor, sym, ap, ◌∙◌, subst, ap₂, arith, length-drop, length-set, length-take}
 use borrow.Rule.Slice.PartMut.{put_mid, mid_of}
 use Rattle.std.proofs.lemmas.List.{take_more, length-append, take_all, get_or_default, get_or-drop, get_or-take, get_or-set_same, get_or-set_other, set-set}
 use Rattle.std.proofs.lemmas.Option.{same_Some, slice_get-get_or}
-use Rattle.std.proofs.lemmas.Bool.{cond-true, le-leb, leb-false, leb-true, lt-ltb}
+use Rattle.std.proofs.lemmas.Bool.{cond-true, leb-false, leb-true, lt-ltb}
 use Rattle.runs.proofs.Ascends.{Rising, ascending_from, rising_from, stretches_exact}
-use Rattle.runs.proofs.Gaps.{edge, edge_at, gap, gaps_cover, gaps_from, gaps_more, gaps_rising, highest_last, rising_apart, rising_here, rising_next, rising_take}
+use Rattle.runs.proofs.Gaps.{edge, edge_at, gap, gaps_cover, gaps_from, gaps_more, gaps_rising, highest_last, rising_here, rising_next, rising_take}
 use Rattle.runs.proofs.Sizes.{total, total_counts, total_more}
 use Rattle.runs.proofs.Moves.{move_up, move_down, set_used}
 use Rattle.runs.proofs.Openings.{alone_stretches, between_stretches, join_stretches}
@@ -16,9 +16,7 @@ use Rattle.runs.specs.Stretches.{Counts, Stretches, ascending, covers, most_runs
 use Rattle.runs.specs.Contents.{runs_in}
 use Rattle.runs.specs.declared.run.Run.{Run}
 use Rattle.runs.specs.declared.table.RunTable.{RunTable}
-use Rattle.std.specs.List.{AllByRecursion}
 use Rattle.std.specs.Option.{option_copied}
-use Rattle.std.specs.List.Sorted.{IsPartitionPoint, IsPartitionedBy}
 
 -- any run, for reading a list within its length
 abbrev pub some_run : Run
@@ -99,11 +97,6 @@ module _ (rs : List Run) (rising : ascending 0 rs ≡ true) where
   order : Rising 0 rs
   order = rising_from 0 rs rising
 
-  pub ends_partition : (n : ℕ) → IsPartitionedBy (λ r. leb (suc (suc r.last)) n) rs
-  ends_partition n i j d h l before =
-      let below = rising_apart 0 rs i j d order h l in
-      le-leb _ _ (omega (arith, leb-true _ _ before))
-
   pub in_order : (i : ℕ) (d : Run) → i < length rs → (get_or rs i d).first ≤ (get_or rs i d).last
   in_order i d h = rising_here 0 rs i d order h
 
@@ -131,18 +124,6 @@ module _ (rs : List Run) (rising : ascending 0 rs ≡ true) where
   gaps_all gaps i h is =
       subst (Stretches (between rs)) (sym (is ∙ ap (gaps_from 0) (take_all i rs h)))
       (stretches_exact (between rs) (gaps_from 0 rs) (gaps_rising 0 rs order) (λ n. gaps_cover 0 n rs order (omega arith)))
-
--- where the tests of the runs' ends turn
-below_all : (P : Run → Type 0) (rs : List Run) (q : ℕ) → q ≤ length rs → ((k : ℕ) (d : Run) → k < q → P (get_or rs k d)) → AllByRecursion P (take q rs)
-below_all P rs zero h f = tt
-below_all P [] (suc q) h f = absurd (omega arith)
-below_all P (r ∷ rs) (suc q) h f = (f 0 r (omega arith), below_all P rs q (le_of_suc-le-suc h) (λ k d l. f (suc k) d (omega arith)))
-
-pub place_found : (rs : List Run) (n p : ℕ) → p ≤ length rs → IsPartitionPoint (λ r. leb (suc (suc r.last)) n ≡ true) (λ r. leb (suc (suc r.last)) n ≡ false) rs p → Place rs n p
-place_found rs n p h at = record {
-  clear = (h, below_all (λ r. r.last + 2 ≤ n) rs p h (λ k d l. omega (arith, leb-true _ _ (at.0 k d (omega arith) l))));
-  here = λ d l. omega (arith, leb-false _ _ (at.1 p d (omega arith) l));
-}
 
 pub count_is : (table : RunTable) → length (runs_in table) ≡ table.count
 count_is table = simp length-take (omega arith)

@@ -6,6 +6,7 @@ mod pieces;
 ghost use Rattle.std.specs.Prelude.{◌≡◌, ◌+◌, ◌<◌, ◌≤◌, length};
 ghost use Rattle.split.specs.Split.{Cut, after, before};
 
+use memchr::memchr;
 pub use pieces::Pieces;
 
 // The bytes before the first separator, and those after it. Where there is none, the whole text and nothing.
@@ -16,7 +17,7 @@ pub fn cut(text: &[u8], separator: u8) -> (&[u8], &[u8])
     ensures lengths { length result.0.now + length result.1.now ≤ length text.now }
     ensures shorter { 0 < length text.now → length result.1.now < length text.now }
 {
-    match text.iter().position(|byte| *byte == separator) {
+    match memchr(separator, text) {
         Some(place) => (&text[..place], &text[place + 1..]),
         None => (text, &text[..0]),
     }

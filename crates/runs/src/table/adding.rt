@@ -25,7 +25,9 @@ impl RunTable {
         ensures { Place (runs_in self.now) number result }
     {
         self.as_slice()
-            .partition_point(|run| run.ends_before(number))
+            .iter()
+            .position(|run| !run.ends_before(number))
+            .unwrap_or(self.count)
     }
 
     // Opens a run at the place; those from there on move up.

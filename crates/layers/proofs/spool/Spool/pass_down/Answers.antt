@@ -1,24 +1,12 @@
-use Rattle.std.proofs.Common.{◌≡◌, ◌+◌, ◌<◌, [], ◌∷◌, ◌++◌, length, Ok, sym, ap, ◌∙◌, subst, append_assoc, arith, length-append}
-use Rattle.std.proofs.lemmas.List.{length_push}
-use Rattle.layers.specs.Below.{Sent}
-use Rattle.layers.proofs.Chains.{took_more}
-use Rattle.layers.proofs.Places.{first_removed}
+use Rattle.std.proofs.Common.{◌<◌, length, ap, ◌∙◌, arith}
+use Rattle.layers.proofs.Chains.{took_next}
 use Rattle.layers.proofs.spool.Spool.pass_down.Goals as goal
 
-pub loop-turn-preserved : goal.loop-turn-preserved
-loop-turn-preserved g c =
-    let loop = c.loop-turn in
-    let passed = loop.invariant.0 in
-    let oldest = c.remove-oldest.result in
-    let rest = c.remove-oldest.new.self.items in
-    let sent : Sent g.C.Channel loop.self.below oldest (Ok tt) c.send.new.self =
-    subst (λ r. Sent g.C.Channel loop.self.below oldest r c.send.new.self) c.unwrap.ensures
-    (record { law = c.send.ensures.law; rule = c.send.ensures.rule }) in
-    let held = loop.self.held.items in
-    let some : 0 < length held = omega (arith, ap length loop.invariant.2 ∙ length-append passed held, loop.invariant.3) in
-    let front : held ≡ oldest ∷ rest = first_removed held oldest rest some c.remove-oldest.ensures.value c.remove-oldest.ensures.items in (
-      passed ++ oldest ∷ [],
-      took_more g.C.Channel passed oldest c.args.self.now.below loop.self.below c.send.new.self loop.invariant.1 sent,
-      loop.invariant.2 ∙ ap (λ l. passed ++ l) front ∙ sym (append_assoc passed (oldest ∷ []) rest),
-      length_push passed oldest ∙ ap (λ n. n + 1) loop.invariant.3,
-    )
+pub loop-passed-preserved : goal.loop-passed-preserved
+loop-passed-preserved g c =
+    let spool = c.args.self.now in
+    let loop = c.loop-passed in
+    let low : loop.passed < length spool.held.items = omega (arith, c.loop-passed-test.true, c.len-count.ensures.value) in
+    let took = took_next g.C.Channel spool.held.items loop.passed _ spool.below loop.self.below c.send.new.self c.send.result c.as_slice.result.now
+    (c.as_slice.ensures.value ∙ ap (λ h. h.items) loop.invariant.1) low loop.invariant.0 c.send.ensures.law c.send.ensures.rule c.unwrap.ensures in
+    (took, loop.invariant.1, omega arith)

@@ -1,10 +1,13 @@
-use Rattle.std.proofs.Common.{◌≡◌, ◌++◌, List, length}
-use Rattle.event.specs.declared.events.Transmission.{Transmission}
+use Rattle.std.proofs.Common.{◌≡◌, ◌-◌, ◌≤◌, take}
 use Rattle.layers.specs.Below.{Took}
 use Rattle.layers.proofs.spool.Spool.pass_down.Given as goal
 
--- below took the oldest one by one, one in each turn, and the rest is held
-abbrev pub invariant-loop-turn : goal.invariant-loop-turn
-invariant-loop-turn g l =
-    (passed : List Transmission) × Took g.C.Channel l.initial.self.below passed l.self.below
-    × (l.initial.self.held.items ≡ passed ++ l.self.held.items) × (length passed ≡ l._turn)
+-- below took the oldest one by one, and what is held is as it was
+abbrev pub invariant-loop-passed : goal.invariant-loop-passed
+invariant-loop-passed g l =
+    Took g.C.Channel l.initial.self.below (take l.passed l.initial.self.held.items) l.self.below
+    × (l.self.held ≡ l.initial.self.held)
+    × (l.passed ≤ l.count)
+
+abbrev pub decreases-loop-passed : goal.decreases-loop-passed
+decreases-loop-passed g l = l.count - l.passed
