@@ -74,7 +74,7 @@ pub at_end : (text : List ℕ) (i : ℕ) (s : State) → length text ≤ i → r
 at_end text i s h e = ap (run begin) (sym (take_all i text h)) ∙ e
 
 pub shallow_scanner : (s : Scanner) → Shallow (state_of s)
-shallow_scanner s = omega (arith, s.shallow, length_stack s.containers.items)
+shallow_scanner s = omega (arith, s.shallow, length_stack s.containers.now.items)
 
 -- the byte at i was refused
 pub stopped : (text : List ℕ) (i b : ℕ) (why : Refusal) (s : State) → i < length text → run begin (take i text) ≡ s → b ≡ get_or text i 0 → ShallowTo text i → ((why ≡ NotJson) × (step s b ≡ dead)) ⊎ ((why ≡ TooDeep) × TooFar (step s b)) → ((why ≡ TooDeep) × Deep text) ⊎ ((why ≡ NotJson) × (IsJson text → ⊥) × (Deep text → ⊥))

@@ -16,7 +16,7 @@ Judged text r =
 
 -- the machine's state that the scanner stands for
 abbrev pub state_of : Scanner → State
-state_of s = live (mode_of s.mode) (stack s.containers.items)
+state_of s = live (mode_of s.mode) (stack s.containers.now.items)
 
 -- the machine is alive and no deeper than allowed
 abbrev pub Shallow : State → Type 0

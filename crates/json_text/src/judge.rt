@@ -1,5 +1,5 @@
 // Whether bytes are JSON.
-ghost use Rattle.std.specs.Prelude.{◌≡◌, ◌≤◌, length, IfSome};
+ghost use Rattle.std.specs.Prelude.{◌≡◌, ◌≤◌, [], length, IfSome};
 ghost use Rattle.json_text.specs.Beginnings.{OneTree};
 ghost use Rattle.json_text.specs.Machine.{accepts, begin, ending, step};
 ghost use Rattle.json_text.specs.Machine.Mode.{chars};
@@ -8,31 +8,32 @@ ghost use Rattle.json_text.specs.Verdict.{Judged, Passes, Stepped, state_of};
 
 use crate::mode::{Container, Mode, Move, NumberPart, StringPart};
 use crate::quoted::{after_string, plain_length};
-use crate::scanner::Scanner;
+use crate::scanner::{DEEPEST, Scanner};
 use crate::structure::next;
 use arrayvec::ArrayVec;
 use refusal::Refusal;
 
-impl Scanner {
-    fn new() -> Scanner
+impl<'a> Scanner<'a> {
+    fn new(containers: &'a mut ArrayVec<Container, DEEPEST>) -> Scanner<'a>
+        requires { containers.old.items ≡ [] }
         ensures { state_of result ≡ begin }
     {
         Scanner {
             mode: Mode::Value,
-            containers: ArrayVec::new(),
+            containers,
         }
     }
 
     // The innermost open container.
     fn inner(&self) -> Option<Container>
-        ensures { top (stack self.now.containers.items) ≡ result }
+        ensures { top (stack self.now.containers.now.items) ≡ result }
     {
         self.containers.last().copied()
     }
 
     // One container more is open.
     fn push(&mut self, container: Container) -> Result<(), Refusal>
-        ensures { Stepped (opened_in container (stack self.old.containers.items)) result (state_of self.new) }
+        ensures { Stepped (opened_in container (stack self.old.containers.now.items)) result (state_of self.new) }
     {
         if self.containers.is_full() {
             return Err(Refusal::TooDeep);
@@ -83,7 +84,7 @@ fn ends_value(mode: Mode) -> bool
     }
 }
 
-impl Scanner {
+impl<'a> Scanner<'a> {
     // A text may end here.
     fn is_complete(&self) -> bool
         ensures { result ≡ accepts (state_of self.now) }
@@ -123,7 +124,8 @@ pub fn check(text: &[u8]) -> Result<(), Refusal>
     ensures judged { Judged text.now result }
     ensures one_tree { OneTree text.now }
 {
-    let mut scanner = Scanner::new();
+    let mut containers = ArrayVec::new();
+    let mut scanner = Scanner::new(&mut containers);
     let mut left = text;
     while let [byte, rest @ ..] = left {
         scanner.step(*byte)?;

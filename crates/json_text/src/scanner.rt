@@ -10,9 +10,9 @@ pub const DEEPEST: usize = 8;
 
 // What has been read, as far as it matters to what may follow.
 #[derive(Drop)]
-pub struct Scanner {
+pub struct Scanner<'a> {
     pub mode: Mode,
-    // what is open, the innermost last
-    pub containers: ArrayVec<Container, DEEPEST>,
-    ghost shallow: { array_vec_len containers ≤ 8 },
+    // what is open, the innermost last; lent, since beside an array that is indexed the mode would stay in memory
+    pub containers: &'a mut ArrayVec<Container, DEEPEST>,
+    ghost shallow: { array_vec_len containers.now ≤ 8 },
 }

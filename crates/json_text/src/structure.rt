@@ -11,10 +11,11 @@ use crate::mode::{Container, Mode, Move, NumberPart, StringPart, WordRest};
 use crate::quoted::in_string;
 use crate::word::in_word;
 
+// Most bytes are past the space, so that is asked first.
 pub fn is_white(byte: u8) -> bool
     ensures { result ≡ white byte }
 {
-    matches!(byte, b' ' | b'\t' | b'\n' | b'\r')
+    byte <= b' ' && matches!(byte, b' ' | b'\t' | b'\n' | b'\r')
 }
 
 // The byte after a value: white space, a comma, or the end of what is open.

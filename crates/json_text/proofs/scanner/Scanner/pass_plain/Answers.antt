@@ -16,9 +16,9 @@ returns-then-rest-length-eq34 c =
     let scanner = c.args.self.now in
     let xs = c.args.rest.now in
     let n = c.plain_length-length.result in
-    let k = stack scanner.containers.items in
+    let k = stack scanner.containers.now.items in
     let from : live (chars c.in-Some.name) k ≡ state_of scanner = sym (ap (λ m. live m k) c.in-Some.ensures) in
-    let passes = string_passes c.in-Some.name k xs n (omega (arith, scanner.shallow, length_stack scanner.containers.items)) (omega arith) c.plain_length-length.ensures.plain c.if-rest-length-eq34.true in
+    let passes = string_passes c.in-Some.name k xs n (omega (arith, scanner.shallow, length_stack scanner.containers.now.items)) (omega arith) c.plain_length-length.ensures.plain c.if-rest-length-eq34.true in
     record {
       bound = omega arith;
       passed = subst (λ s. Passes s (n + 1) xs (live (mode_of c.after_string-self.result) k)) from (subst (Passes (live (chars c.in-Some.name) k) (n + 1) xs) (sym (c.after_string-self.ensures k)) passes);
@@ -27,7 +27,7 @@ returns-then-rest-length-eq34 c =
 pub returns : goal.returns
 returns c =
     let scanner = c.args.self.now in
-    let k = stack scanner.containers.items in
+    let k = stack scanner.containers.now.items in
     let from : live (chars c.in-Some.name) k ≡ state_of scanner = sym (ap (λ m. live m k) c.in-Some.ensures) in
-    let passes = plain_passes c.in-Some.name k c.args.rest.now c.plain_length-length.result (omega (arith, scanner.shallow, length_stack scanner.containers.items)) c.plain_length-length.ensures.bound c.plain_length-length.ensures.plain in
+    let passes = plain_passes c.in-Some.name k c.args.rest.now c.plain_length-length.result (omega (arith, scanner.shallow, length_stack scanner.containers.now.items)) c.plain_length-length.ensures.bound c.plain_length-length.ensures.plain in
     record { bound = c.plain_length-length.ensures.bound; passed = subst (λ s. Passes s c.plain_length-length.result c.args.rest.now s) from passes }

@@ -8,12 +8,12 @@ use Rattle.json_text.proofs.scanner.Scanner.push.Goals.{in-Array, in-Object}
 
 pub returns-then-is_full : goal.returns-then-is_full
 returns-then-is_full c =
-    let full = eqb-true (length c.args.self.now.containers.items) _ (sym c.is_full.ensures.value ∙ c.if-is_full.true) in
-    inr (refl, too_far c.args.container (stack c.args.self.now.containers.items) (omega (arith, full, length_stack c.args.self.now.containers.items)))
+    let full = eqb-true (length c.args.self.now.containers.now.items) _ (sym c.is_full.ensures.value ∙ c.if-is_full.true) in
+    inr (refl, too_far c.args.container (stack c.args.self.now.containers.now.items) (omega (arith, full, length_stack c.args.self.now.containers.now.items)))
 
 pub returns : goal.returns
 returns c =
-    let xs = c.args.self.now.containers.items in
+    let xs = c.args.self.now.containers.now.items in
     let k = stack xs in
     ap (λ ys. live (mode_of c.match-container.self) (stack ys)) c.push.ensures.items
     ∙ ap (live (mode_of c.match-container.self)) (stacked_last [] xs c.args.container)
