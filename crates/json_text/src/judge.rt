@@ -14,6 +14,7 @@ use arrayvec::ArrayVec;
 use refusal::Refusal;
 
 impl<'a> Scanner<'a> {
+    // Before the first byte: what it is lent for what is open is empty.
     fn new(containers: &'a mut ArrayVec<Container, DEEPEST>) -> Scanner<'a>
         requires { containers.old.items ≡ [] }
         ensures { state_of result ≡ begin }
